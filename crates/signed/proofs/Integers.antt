@@ -1,0 +1,158 @@
+-- Laws of the integers: sums and products rearranged, sizes bounded, and the machine words that hold them.
+-- Assumes nothing.
+use mathlib.Core.Path.{_≡_, refl, sym, ap, _∙_}
+use mathlib.Core.Bool.{Bool, true, false, cond}
+use Prim.Native.Nat.{ℕ, zero, suc, _+_, _-_, _*_, _^_, _≤_, _<_}
+use native.Mathlib.Nat.{le-trans, lt-of-le-of-lt, mul-le-mul}
+use native.Mathlib.Omega.{arith}
+use lib.Dec.{ltb, lit<}
+use lib.IntN.{
+  ℤ,
+  pos,
+  negsuc,
+  negℤ,
+  sucℤ,
+  predℤ,
+  natAbs,
+  subℕ,
+  _+ℤ_,
+  _-ℤ_,
+  _*ℤ_,
+  +ℤ-assoc,
+  +ℤ-comm,
+  +ℤ-idl,
+  +ℤ-idr,
+  +ℤ-invr,
+  +ℤ-sucℤ,
+  +ℤ-predℤ,
+  zero-*ℤ,
+  sucℤ-*ℤ,
+  predℤ-*ℤ,
+}
+use lib.Signed.{mag, natAbs-le}
+use mir.Syntax.{Width, w32, w64}
+use mir.Val.{SFits, hbits, toZ, ofZ}
+use mir.Facts.{toZ-ofZ, sfits-widen}
+use Rattle.signed.specs.Signed.{withSign}
+
+-- ---- sums and products
+
+-- equal naturals as integers are equal naturals
+pub pos-injective : (m n : ℕ) → pos m ≡ pos n → m ≡ n
+pos-injective m n e = ap natAbs e
+
+-- the last two of three summands change places
+pub swap-right : (a b c : ℤ) → a +ℤ b +ℤ c ≡ a +ℤ c +ℤ b
+swap-right a b c = simp (+ℤ-assoc, +ℤ-comm)
+
+-- what is added on the right of both sides drops out
+pub shift-cancel : (a b t : ℤ) → a +ℤ t ≡ b +ℤ t → a ≡ b
+shift-cancel a b t e = sym (undo a) ∙ ap (λ (z : ℤ). z +ℤ negℤ t) e ∙ undo b
+  where
+    undo : (z : ℤ) → z +ℤ t +ℤ negℤ t ≡ z
+    undo z = simp (+ℤ-assoc, +ℤ-invr, +ℤ-idr)
+
+-- and on the left
+pub cancel-left : (t a b : ℤ) → t +ℤ a ≡ t +ℤ b → a ≡ b
+cancel-left t a b e = shift-cancel a b t (+ℤ-comm a t ∙ e ∙ +ℤ-comm t b)
+
+-- minus a, as a difference
+pub zero-minus : (a : ℤ) → pos 0 -ℤ a ≡ negℤ a
+zero-minus a = +ℤ-idl (negℤ a)
+
+-- one step up and one step down in the second summand of a product's factor
+add-mul-suc : (a b k : ℤ) → (a +ℤ b) *ℤ k ≡ a *ℤ k +ℤ b *ℤ k → (a +ℤ sucℤ b) *ℤ k ≡ a *ℤ k +ℤ sucℤ b *ℤ k
+add-mul-suc a b k ih = simp (+ℤ-sucℤ, sucℤ-*ℤ, ih, +ℤ-assoc)
+
+add-mul-pred : (a b k : ℤ) → (a +ℤ b) *ℤ k ≡ a *ℤ k +ℤ b *ℤ k → (a +ℤ predℤ b) *ℤ k ≡ a *ℤ k +ℤ predℤ b *ℤ k
+add-mul-pred a b k ih = simp (+ℤ-predℤ, predℤ-*ℤ, ih, +ℤ-assoc)
+
+-- the product of a sum
+pub add-mul : (a b k : ℤ) → (a +ℤ b) *ℤ k ≡ a *ℤ k +ℤ b *ℤ k
+add-mul a (pos zero) k = simp (+ℤ-idr, zero-*ℤ)
+add-mul a (pos (suc n)) k = add-mul-suc a (pos n) k (add-mul a (pos n) k)
+add-mul a (negsuc zero) k = add-mul-pred a (pos zero) k (simp (+ℤ-idr, zero-*ℤ))
+add-mul a (negsuc (suc n)) k = add-mul-pred a (negsuc n) k (add-mul a (negsuc n) k)
+
+-- ---- sizes
+
+-- a sign does not change the size,
+pub abs-neg : (a : ℤ) → natAbs (negℤ a) ≡ natAbs a
+abs-neg (pos zero) = refl
+abs-neg (pos (suc n)) = refl
+abs-neg (negsuc n) = refl
+
+-- nor does the sign a number is given
+pub abs-withSign : (minus : Bool) (n : ℕ) → natAbs (withSign minus n) ≡ n
+abs-withSign true n = abs-neg (pos n)
+abs-withSign false n = refl
+
+-- the difference of two naturals
+abs-difference : (a b : ℕ) → natAbs (subℕ a (suc b)) ≤ a + suc b
+abs-difference a b = go (ltb a (suc b))
+  where
+    go : (t : Bool) → natAbs (cond t (negsuc (suc b - suc a)) (pos (a - suc b))) ≤ a + suc b
+    go true = omega arith
+    go false = omega arith
+
+-- the size of a sum
+abs-+ℤ : (a b : ℤ) → natAbs (a +ℤ b) ≤ natAbs a + natAbs b
+abs-+ℤ (pos a) (pos b) = omega arith
+abs-+ℤ (pos a) (negsuc b) = abs-difference a b
+abs-+ℤ (negsuc a) (pos b) = omega (arith, abs-difference b a)
+abs-+ℤ (negsuc a) (negsuc b) = omega arith
+
+-- a sum is no larger than the bounds of its summands together
+pub abs-add : (a b : ℤ) (m n : ℕ) → natAbs a ≤ m → natAbs b ≤ n → natAbs (a +ℤ b) ≤ m + n
+abs-add a b m n h k = omega (arith, abs-+ℤ a b)
+
+-- the size of a product
+pub abs-*ℤ : (a b : ℤ) → natAbs (a *ℤ b) ≡ natAbs a * natAbs b
+abs-*ℤ (pos a) (pos b) = refl
+abs-*ℤ (pos a) (negsuc b) = abs-neg (pos (a * suc b))
+abs-*ℤ (negsuc a) (pos b) = abs-neg (pos (suc a * b))
+abs-*ℤ (negsuc a) (negsuc b) = refl
+
+-- a product is no larger than the product of its factors' bounds
+pub abs-mul : (a b : ℤ) (m n : ℕ) → natAbs a ≤ m → natAbs b ≤ n → natAbs (a *ℤ b) ≤ m * n
+abs-mul a b m n h k = rw (abs-*ℤ a b) (mul-le-mul h k)
+
+-- ---- machine words
+
+-- the measure that a word's range is stated by
+mag-abs : (a : ℤ) → mag a ≤ natAbs a
+mag-abs (pos n) = omega arith
+mag-abs (negsuc n) = omega arith
+
+-- what is bounded in size fits; the last argument is `lit< tt` at numerals
+pub fits-abs : (w : Width) (a : ℤ) (n : ℕ) → natAbs a ≤ n → n < 2 ^ hbits w → SFits w a
+fits-abs w a n h k = record { sfits = lt-of-le-of-lt (le-trans (mag-abs a) h) k }
+
+-- 32 bits, signed: the size is at most 2^31
+pub abs-word : (a : ℤ) → SFits w32 a → natAbs a ≤ 2147483648
+abs-word a f = natAbs-le a (f .sfits)
+
+-- the product of two such numbers: at most 2^62
+pub abs-product : (a b : ℤ) → SFits w32 a → SFits w32 b → natAbs (a *ℤ b) ≤ 4611686018427387904
+abs-product a b f g = abs-mul a b 2147483648 2147483648 (abs-word a f) (abs-word b g)
+
+-- 64 bits hold what 32 do,
+pub wide : (a : ℤ) → SFits w32 a → SFits w64 a
+wide a f = sfits-widen tt f
+
+-- and their sums
+pub sum-fits : (a b : ℤ) → SFits w32 a → SFits w32 b → SFits w64 (a +ℤ b)
+sum-fits a b f g =
+    fits-abs w64 (a +ℤ b) 4294967296 (abs-add a b 2147483648 2147483648 (abs-word a f) (abs-word b g)) (lit< tt)
+
+-- and products
+pub product-fits : (a b : ℤ) → SFits w32 a → SFits w32 b → SFits w64 (a *ℤ b)
+product-fits a b f g = fits-abs w64 (a *ℤ b) 4611686018427387904 (abs-product a b f g) (lit< tt)
+
+-- a count of 16 bits fits 32, signed
+pub count-fits : (n : ℕ) → n < 65536 → SFits w32 (pos n)
+count-fits n h = record { sfits = omega arith }
+
+-- a call's result, read back from the word that holds it: `read-back w64 (c .f .result) (c .f .ok)`
+pub read-back : (w : Width) (a : ℤ) → mag a < 2 ^ hbits w → toZ w (ofZ w a) ≡ a
+read-back w a h = let f : SFits w a = record { sfits = h } in toZ-ofZ f

@@ -1,0 +1,156 @@
+// Sine and cosine of angles in hundredths of a degree, in units of 10^-9, and the offsets that they give.
+ghost use mathlib.Core.Path.{_≡_};
+ghost use Prim.Native.Nat.{_≤_, _<_};
+ghost use lib.IntN.{pos, natAbs, _+ℤ_, _-ℤ_};
+ghost use Rattle.sine.specs.Series.{nearest, one};
+ghost use Rattle.sine.specs.Sine.{
+  joined,
+  quadrantSine,
+  turn,
+  acute,
+  turnSine,
+  sine,
+  cosine,
+  directionOf,
+  rounded,
+  offset,
+};
+
+mod entries;
+
+use entries::DEGREE_SINES;
+use entries::HUNDREDTH_COSINES;
+use entries::HUNDREDTH_SINES;
+
+// The cosine and the sine of one angle.
+pub struct Direction {
+    pub cosine: i32,
+    pub sine: i32,
+}
+
+// What a sine of one is in the unit of 10^-9.
+const ONE: u64 = 1_000_000_000;
+
+// A half, in the same unit.
+const HALF: u64 = 500_000_000;
+
+// A number of these units as the nearest whole number, halves up.
+fn nearest(n: u64) -> u64
+    requires { ⌜ n ≤ 9000000000000000000 ⌝ }
+    ensures { λ r. ⌜ r ≡ nearest n one ⌝ }
+{
+    (n + HALF) / ONE
+}
+
+// The same for a number with a sign, halves away from zero.
+fn rounded(z: i64) -> i64
+    requires { ⌜ natAbs z ≤ 9000000000000000000 ⌝ }
+    ensures { λ r. ⌜ r ≡ rounded z one ⌝ }
+{
+    if z < 0 {
+        0 - (nearest((0 - z) as u64) as i64)
+    } else {
+        nearest(z as u64) as i64
+    }
+}
+
+// The sine of two angles together, by the sum formula.
+fn joined(sine1: u32, cosine1: u32, sine2: u32, cosine2: u32) -> u32
+    requires { ⌜ (sine1 ≤ one) × ((cosine1 ≤ one) × ((sine2 ≤ one) × (cosine2 ≤ one))) ⌝ }
+    ensures { λ r. ⌜ r ≡ joined sine1 cosine1 sine2 cosine2 ⌝ }
+{
+    let sum = (sine1 as u64) * (cosine2 as u64) + (cosine1 as u64) * (sine2 as u64);
+    nearest(sum) as u32
+}
+
+// The sine of an angle of the first quadrant, from its whole degrees and the hundredths past them.
+fn quadrant_sine(a: u32) -> u32
+    requires { ⌜ a ≤ 9000 ⌝ }
+    ensures { λ r. ⌜ r ≡ quadrantSine a ⌝ }
+{
+    let d = (a / 100) as usize;
+    let h = (a % 100) as usize;
+    let degrees = DEGREE_SINES;
+    joined(
+        degrees[d],
+        degrees[90 - d],
+        HUNDREDTH_SINES[h],
+        HUNDREDTH_COSINES[h],
+    )
+}
+
+// An angle reduced to a full turn.
+fn turn(angle: i64) -> u32
+    ensures { λ r. ⌜ r ≡ turn angle ⌝ }
+{
+    let rest = angle % 36000;
+    if rest < 0 {
+        (rest + 36000) as u32
+    } else {
+        rest as u32
+    }
+}
+
+// What a reduced angle lacks of 90 degrees, reduced as well.
+fn complement(t: u32) -> u32
+    requires { ⌜ t < 36000 ⌝ }
+    ensures { λ r. ⌜ r ≡ turn (pos 9000 -ℤ pos t) ⌝ }
+{
+    if t <= 9000 { 9000 - t } else { 45000 - t }
+}
+
+// A reduced angle reflected into the first quadrant.
+fn acute(t: u32) -> u32
+    requires { ⌜ t < 36000 ⌝ }
+    ensures { λ r. ⌜ r ≡ acute t ⌝ }
+{
+    if t <= 9000 {
+        return t;
+    }
+    if t <= 18000 {
+        return 18000 - t;
+    }
+    if t <= 27000 {
+        return t - 18000;
+    }
+    36000 - t
+}
+
+// The sine of a reduced angle.
+fn turn_sine(t: u32) -> i32
+    requires { ⌜ t < 36000 ⌝ }
+    ensures { λ r. ⌜ r ≡ turnSine t ⌝ }
+{
+    signed::with_sign(18000 < t, quadrant_sine(acute(t)))
+}
+
+// The sine of any angle.
+pub fn sine(angle: i64) -> i32
+    ensures { λ r. ⌜ r ≡ sine angle ⌝ }
+{
+    turn_sine(turn(angle))
+}
+
+// The cosine of any angle. The angle is reduced first, so that nothing can overflow.
+pub fn cosine(angle: i64) -> i32
+    ensures { λ r. ⌜ r ≡ cosine angle ⌝ }
+{
+    turn_sine(complement(turn(angle)))
+}
+
+// Cosine and sine of one angle, which is reduced once.
+pub fn direction_of(angle: i64) -> Direction
+    ensures { λ r. ⌜ r ≡ directionOf angle ⌝ }
+{
+    let t = turn(angle);
+    let c = turn_sine(complement(t));
+    let s = turn_sine(t);
+    Direction { cosine: c, sine: s }
+}
+
+// Where a distance leads from a start along an axis, by the sine (or cosine) of its angle to it.
+pub fn displaced(start: i32, distance: i32, sine: i32) -> i64
+    ensures { λ r. ⌜ r ≡ start +ℤ offset distance sine ⌝ }
+{
+    (start as i64) + rounded((distance as i64) * (sine as i64))
+}
