@@ -1,0 +1,5 @@
+pub mod Judging
+pub mod Named
+pub mod Plates
+pub mod Runs
+pub mod Storage

@@ -1,0 +1,40 @@
+-- Near coordinates fit 32 bits. Assumes nothing.
+use mathlib.Core.Path.{_≡_}
+use native.Mathlib.Omega.{arith}
+use borrow.Author.Needs.{needs}
+use mir.Syntax.{w32, w64}
+use mir.Val.{toZ, ofZ}
+use Rattle.aries.specs.Places.{pointOf}
+use Rattle.aries.proofs.Judging.{near-x, near-y}
+use Rattle.aries.proofs.point.Place.point.Statement.{statement}
+use Rattle.aries.proofs.point.Place.point.Tie as tie
+
+x-back : (c : tie.Start) → toZ w64 (ofZ w64 (c .args .self .x)) ≡ c .args .self .x
+x-back c = search needs
+
+y-back : (c : tie.Start) → toZ w64 (ofZ w64 (c .args .self .y)) ≡ c .args .self .y
+y-back c = search needs
+
+narrow-requires : tie.Need-narrow-requires
+narrow-requires c κs =
+    let a = c .before .before in
+    simp (x-back a) (omega (arith, near-x (pointOf (a .args .self)) (a .pre)))
+
+narrow-requires-2 : tie.Need-narrow-requires-2
+narrow-requires-2 c κs =
+    let a = c .before .before .before in
+    simp (y-back a) (omega (arith, near-y (pointOf (a .args .self)) (a .pre)))
+
+x-is : (c : tie.After-narrow) → toZ w32 (ofZ w32 (c .narrow .result)) ≡ c .before .before .before .args .self .x
+x-is c = let e : toZ w32 (ofZ w32 (c .narrow .result)) ≡ c .narrow .result = search needs in
+    simp (e) (simp (x-back (c .before .before .before)) at (c .narrow .ensures))
+
+y-is : (c : tie.After-narrow2) → toZ w32 (ofZ w32 (c .narrow2 .result)) ≡ c .before .before .before .before .args .self .y
+y-is c = let e : toZ w32 (ofZ w32 (c .narrow2 .result)) ≡ c .narrow2 .result = search needs in
+    simp (e) (simp (y-back (c .before .before .before .before)) at (c .narrow2 .ensures))
+
+returns : tie.Need-returns
+returns c = simp (x-is (c .before), y-is c)
+
+pub point-spec : {M : Type 1} → statement M
+point-spec = tie.close (tie.spec narrow-requires narrow-requires-2 returns)

@@ -1,0 +1,171 @@
+-- Demand 3: what G75 and G76 make of a part, for every part, layout, starting corner and state before. The words are
+-- those of document 01, "For demand 3, a run is ..".
+use mathlib.Core.Path.{_≡_}
+use mathlib.Core.Logic.{_↔_}
+use mathlib.Core.Bool.{Bool, true, false}
+use mathlib.Core.List.{List, [], _∷_, _++_, map}
+use Prim.Native.Nat.{ℕ, zero, suc, _+_, _-_, _*_, _/_, _%_}
+use lib.Dec.{eqb}
+use lib.IntN.{ℤ, pos, _+ℤ_, _-ℤ_}
+use Rattle.aries.specs.declared.point.Point.{Point}
+use Rattle.aries.specs.declared.block.Layout.{Layout}
+use Rattle.aries.specs.declared.setup.Sheet.{Sheet}
+use Rattle.aries.specs.declared.setup.Sheet.the-variants.{Plain, LaidOut}
+use Rattle.aries.specs.declared.setup.Setup.{Setup}
+use Rattle.aries.specs.declared.state.State.{State}
+use Rattle.aries.specs.declared.state.Progress.{Progress}
+use Rattle.aries.specs.Outcome.{Out, done, refused}
+use Rattle.aries.specs.Test.{either, pick}
+use Rattle.aries.specs.Hits.{Hit, Made}
+use Rattle.aries.specs.Judging.{lent, unjudged}
+use Rattle.aries.specs.Moves.{pointAt, zeroPoint, _⊕_, withState}
+use Rattle.aries.specs.Layouts.{copyStart, partOf, copyPart}
+
+-- ---- Runs
+
+-- What a run depends on: the text, what is set up, the line of the block, the part that W names and the corner that Q
+-- names, the progress before (the state, the count of blocks carried out and of hits made), and the numbers of the list.
+pub record Circumstances : Type 0 where
+  pub text : List ℕ
+  pub setup : Setup
+  pub line : ℕ
+  pub part : ℕ
+  pub corner : ℕ
+  pub before : Progress
+  pub numbers : ℕ
+
+-- a run: a G76 block, or a G75 block, with all that it carries out
+unfoldable pub run : Bool → Circumstances → Out (Made Progress)
+unfolding copyPart
+run vertical c = copyPart (lent (c .numbers)) (c .text) (c .setup) (c .line) (record { vertical = vertical; part = c .part; corner = c .corner }) (c .before)
+
+abbrev pub byG75 : Circumstances → Out (Made Progress)
+unfolding run
+byG75 c = run false c
+
+abbrev pub byG76 : Circumstances → Out (Made Progress)
+unfolding run
+byG76 c = run true c
+
+-- accepted: none of it is refused
+abbrev pub Accepted : Out (Made Progress) → Type 0
+Accepted out = (m : Made Progress) × (out ≡ done m)
+
+-- the hits that it adds to the list
+abbrev pub hitsOf : Out (Made Progress) → List Hit
+hitsOf (done m) = m .hits
+hitsOf (refused number line) = []
+
+-- The part's own hits: those it makes when the block calls it once from the state found, with origin and current point
+-- at (0, 0), no pattern origin waiting, and 3, 15, 16 and 17 not judged.
+unfoldable pub ownHits : Circumstances → List Hit
+ownHits c =
+    hitsOf
+    (partOf unjudged (c .text) (c .setup) (c .part) (record { machine = c .setup .machine; origin = zeroPoint })
+    (withState (c .before) (copyStart (c .before .state) zeroPoint)))
+
+-- a hit with a vector added to X and Y
+abbrev pub movedBy : Point → Hit → Hit
+movedBy v h = record { place = h .place ⊕ v; tool = h .tool; nibble = h .nibble }
+
+-- ---- Places, by the paper's sentences on m
+
+-- c and r count pitches along X and Y from the first place
+pub record Cell : Type 0 where
+  pub c : ℕ
+  pub r : ℕ
+
+-- the rest, or the last less the rest where the other count is odd
+abbrev pub backAndForth : ℕ → ℕ → ℕ → ℕ
+backAndForth last count rest = pick (eqb (count % 2) 1) (last - rest) rest
+
+-- In G75, r is m / (P + 1), rest dropped; c is the rest, or P less the rest where r is odd.
+abbrev pub cell75 : ℕ → ℕ → Cell
+cell75 p m = record { c = backAndForth p (m / (p + 1)) (m % (p + 1)); r = m / (p + 1) }
+
+-- In G76, c is m / (K + 1), rest dropped; r is the rest, or K less the rest where c is odd.
+abbrev pub cell76 : ℕ → ℕ → Cell
+cell76 k m = record { c = m / (k + 1); r = backAndForth k (m / (k + 1)) (m % (k + 1)) }
+
+abbrev pub cellOf : Bool → Layout → ℕ → Cell
+cellOf true l m = cell76 (l .steps .y) m
+cellOf false l m = cell75 (l .steps .x) m
+
+-- from the near end a count of pitches is added; from the far end it is taken off the whole width
+abbrev pub coordinate : Bool → ℤ → ℕ → ℕ → ℕ → ℤ
+coordinate true origin last n pitch = origin +ℤ pos (last * pitch) -ℤ pos (n * pitch)
+coordinate false origin last n pitch = origin +ℤ pos (n * pitch)
+
+-- c runs left under Q 2 and 4, else right; r runs down under Q 3 and 4, else up
+abbrev pub placeOf : Point → Layout → ℕ → Cell → Point
+placeOf origin l q x =
+    pointAt
+    (coordinate (either (eqb q 2) (eqb q 4)) (origin .x) (l .steps .x) (x .c) (l .pitch .x))
+    (coordinate (either (eqb q 3) (eqb q 4)) (origin .y) (l .steps .y) (x .r) (l .pitch .y))
+
+-- the lists of m, m + 1, .., so many of them, one after the other
+unfoldable pub joined : {A : Type 0} → (ℕ → List A) → ℕ → ℕ → List A
+joined f zero m = []
+joined f (suc n) m = f m ++ joined f n (suc m)
+
+-- all the part's own hits in order, for each m in turn from 0 to (P + 1) × (K + 1) − 1, the place of m added
+abbrev pub laidOut : Bool → Layout → Circumstances → List Hit
+unfolding joined ownHits
+laidOut vertical l c =
+    joined (λ m. map (movedBy (placeOf (c .setup .origin) l (c .corner) (cellOf vertical l m))) (ownHits c))
+    ((l .steps .x + 1) * (l .steps .y + 1)) 0
+
+-- ---- The four statements
+
+-- Called by G75 and by G76 with all else alike, both runs are accepted or both are refused.
+abbrev pub BothOrNeither : Type 0
+BothOrNeither = (c : Circumstances) → Accepted (byG75 c) ↔ Accepted (byG76 c)
+
+-- a single row, a single column, both pitches zero, or no hit
+pub data Alike (l : Layout) (own : List Hit) : Type 0 where
+  singleRow : l .steps .y ≡ 0 → Alike l own
+  singleColumn : l .steps .x ≡ 0 → Alike l own
+  noPitch : l .pitch .x ≡ 0 → l .pitch .y ≡ 0 → Alike l own
+  noHit : own ≡ [] → Alike l own
+
+-- Where both are accepted, their hits are equal, one by one in order, exactly when the layout is a single row or a single
+-- column, or both pitches are zero, or the part makes no hit.
+abbrev pub EqualExactlyWhen : Type 0
+EqualExactlyWhen =
+    (c : Circumstances) (l : Layout) → c .setup .sheet ≡ LaidOut l → Accepted (byG75 c) → Accepted (byG76 c)
+    → (hitsOf (byG75 c) ≡ hitsOf (byG76 c)) ↔ Alike l (ownHits c)
+
+-- The hits of every accepted run are the part's own hits, moved to each place of the layout once, copy after copy.
+abbrev pub LayoutSentence : Type 0
+LayoutSentence =
+    (vertical : Bool) (c : Circumstances) (l : Layout) → c .setup .sheet ≡ LaidOut l → Accepted (run vertical c)
+    → hitsOf (run vertical c) ≡ laidOut vertical l c
+
+-- the reference point moved by a vector; the ordinary origin, reference plus offset, moves along
+abbrev pub movedSheet : Point → Sheet → Sheet
+movedSheet v Plain = Plain
+movedSheet v (LaidOut l) = LaidOut (record { reference = l .reference ⊕ v; pitch = l .pitch; steps = l .steps })
+
+abbrev pub movedSetup : Point → Setup → Setup
+movedSetup v s = record { machine = s .machine; sheet = movedSheet v (s .sheet); offset = s .offset; origin = s .origin ⊕ v; macros = s .macros }
+
+-- the same call and state with the reference point moved; block count and free places are no part of the state
+abbrev pub movedRun : Point → Circumstances → ℕ → ℕ → ℕ → Circumstances
+movedRun v c blocks hits numbers =
+    record {
+      text = c .text;
+      setup = movedSetup v (c .setup);
+      line = c .line;
+      part = c .part;
+      corner = c .corner;
+      before = record { state = c .before .state; blocks = blocks; hits = hits };
+      numbers = numbers;
+    }
+
+-- Moving the reference point by any vector and changing nothing else in the call or the state before moves every hit of
+-- the run by it, tool, mode and order kept, where both runs are accepted.
+abbrev pub ReferenceMoves : Type 0
+ReferenceMoves =
+    (vertical : Bool) (v : Point) (c : Circumstances) (blocks hits numbers : ℕ)
+    → Accepted (run vertical c) → Accepted (run vertical (movedRun v c blocks hits numbers))
+    → hitsOf (run vertical (movedRun v c blocks hits numbers)) ≡ map (movedBy v) (hitsOf (run vertical c))

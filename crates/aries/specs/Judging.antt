@@ -1,0 +1,47 @@
+-- What is judged besides the block itself: refusals 3, 15, 16 and 17, or none of them. (Document 01, the seventeen
+-- refusals, and "own hits" in the paragraph on demand 3.)
+use mathlib.Core.Bool.{Bool, true, false}
+use mathlib.Core.Option.{Option, none, some}
+use Prim.Native.Nat.{ℕ, _/_}
+use lib.Dec.{leb, ltb}
+use lib.IntN.{ℤ, natAbs}
+use Rattle.aries.specs.declared.point.Point.{Point}
+use Rattle.aries.specs.Test.{both}
+
+-- the most blocks (3), whether 15 and 16 are judged, and the places of the lent list (17)
+pub record Judging : Type 0 where
+  pub blocks : Option ℕ
+  pub bounds : Bool
+  pub places : Option ℕ
+
+-- the most blocks that are carried out
+abbrev pub mostBlocks : ℕ
+mostBlocks = 100000
+
+-- everything, with a lent list of so many numbers: four are a place, fewer at its end are none
+abbrev pub lent : ℕ → Judging
+lent numbers = record { blocks = some mostBlocks; bounds = true; places = some (numbers / 4) }
+
+-- a part's own hits: 3, 15, 16 and 17 are not judged
+abbrev pub unjudged : Judging
+unjudged = record { blocks = none; bounds = false; places = none }
+
+-- one more fits under the limit, if there is one
+abbrev pub room : Option ℕ → ℕ → Bool
+room none n = true
+room (some most) n = ltb n most
+
+-- the test, where it is judged
+abbrev pub judged : Bool → Bool → Bool
+judged false test = true
+judged true test = test
+
+-- 15: a number is within ±999,999 hundredths
+abbrev pub farthest : ℕ
+farthest = 999999
+
+abbrev pub isNear : ℤ → Bool
+isNear z = leb (natAbs z) farthest
+
+unfoldable pub near : Point → Bool
+near p = both (isNear (p .x)) (isNear (p .y))

@@ -1,0 +1,22 @@
+-- The definitions, in the order of document 01.
+pub mod Test
+pub mod Outcome
+pub mod Text
+pub mod Letters
+pub mod Words
+pub mod Blocks
+pub mod Places
+pub mod Machine
+pub mod Judging
+pub mod Hits
+pub mod Moves
+pub mod Lanes
+pub mod Patterns
+pub mod Macros
+pub mod Layouts
+pub mod Bodies
+pub mod Setup
+pub mod Program
+pub mod Runs
+pub mod CopyRuns
+pub mod Plates

@@ -1,0 +1,132 @@
+-- The punching state, positions and hits. (Document 01, "Moving and punching"; refusals 14 to 17.)
+use mathlib.Core.Bool.{Bool, true, false}
+use mathlib.Core.List.{List, [], _∷_}
+use Prim.Native.Nat.{ℕ, _+_, _-_}
+use lib.Dec.{ltb}
+use lib.IntN.{ℤ, pos, _+ℤ_}
+use lib.ListN.{set, replicate}
+use Rattle.aries.specs.declared.point.Point.{Point}
+use Rattle.aries.specs.declared.block.Axis.{Axis}
+use Rattle.aries.specs.declared.block.Axes.{Axes}
+use Rattle.aries.specs.declared.block.Pattern.{Pattern}
+use Rattle.aries.specs.declared.block.Measure.{Measure}
+use Rattle.aries.specs.declared.block.Measure.the-variants.{Kept, Absolute, Incremental}
+use Rattle.aries.specs.declared.state.Waiting.{Waiting}
+use Rattle.aries.specs.declared.state.Waiting.the-variants.{Unset, At}
+use Rattle.aries.specs.declared.state.Stored.{Stored}
+use Rattle.aries.specs.declared.state.Stored.the-variants as Stored
+use Rattle.aries.specs.declared.state.Memory.{Memory}
+use Rattle.aries.specs.declared.state.State.{State}
+use Rattle.aries.specs.declared.state.Frame.{Frame}
+use Rattle.aries.specs.declared.state.Progress.{Progress}
+use Rattle.aries.specs.Outcome.{Out, done, refused, _>>=_, need}
+use Rattle.aries.specs.Test.{pick}
+use Rattle.aries.specs.Machine.{covers}
+use Rattle.aries.specs.Hits.{Hit, Made, still}
+use Rattle.aries.specs.Judging.{Judging, room, judged, near}
+
+abbrev pub pointAt : ℤ → ℤ → Point
+pointAt x y = record { x = x; y = y }
+
+-- the sheet's zero
+abbrev pub zeroPoint : Point
+zeroPoint = pointAt (pos 0) (pos 0)
+
+abbrev pub _⊕_ : Point → Point → Point
+
+infixl 60 _⊕_
+p ⊕ q = pointAt (p .x +ℤ q .x) (p .y +ℤ q .y)
+
+-- ---- The state (what one block leaves to the next), changed in one respect
+
+abbrev pub movedTo : State → Point → State
+movedTo s p = record { current = p; waiting = s .waiting; incremental = s .incremental; nibble = s .nibble; tool = s .tool; memories = s .memories }
+
+abbrev pub waitingFor : State → Waiting → State
+waitingFor s w = record { current = s .current; waiting = w; incremental = s .incremental; nibble = s .nibble; tool = s .tool; memories = s .memories }
+
+abbrev pub inMode : State → Bool → State
+inMode s n = record { current = s .current; waiting = s .waiting; incremental = s .incremental; nibble = n; tool = s .tool; memories = s .memories }
+
+-- T chooses the tool; 0 is no T
+abbrev pub choosing : State → ℕ → State
+choosing s t = record { current = s .current; waiting = s .waiting; incremental = s .incremental; nibble = s .nibble; tool = pick (ltb 0 t) t (s .tool); memories = s .memories }
+
+-- A n stores a pattern; 0 is no A
+abbrev pub remembering : State → ℕ → Pattern → State
+remembering s n p = record { current = s .current; waiting = s .waiting; incremental = s .incremental; nibble = s .nibble; tool = s .tool; memories = pick (ltb 0 n) (set (s .memories) (n - 1) (record { stored = Stored.Kept p })) (s .memories) }
+
+-- G90 or G91 of a block holds for that block already, and on
+abbrev pub isIncremental : Measure → Bool → Bool
+isIncremental Kept before = before
+isIncremental Absolute before = false
+isIncremental Incremental before = true
+
+abbrev pub measuring : State → Measure → State
+measuring s m = record { current = s .current; waiting = s .waiting; incremental = isIncremental m (s .incremental); nibble = s .nibble; tool = s .tool; memories = s .memories }
+
+-- a position block drops a waiting pattern origin
+abbrev pub dropping : State → State
+dropping s = waitingFor s Unset
+
+-- At the start G90 holds, the mode is P, no tool is chosen and nothing is stored.
+abbrev pub freshState : State
+freshState = record { current = zeroPoint; waiting = Unset; incremental = false; nibble = false; tool = 0; memories = replicate 5 (record { stored = Stored.Empty }) }
+
+abbrev pub withState : Progress → State → Progress
+withState g s = record { state = s; blocks = g .blocks; hits = g .hits }
+
+-- ---- Positions
+
+-- one axis: an omitted one stays; else it is measured from the origin or, under G91, from the current point
+abbrev pub axisTarget : Axis → Bool → ℤ → ℤ → ℤ
+axisTarget a incremental origin current = pick (a .written) (pick incremental current origin +ℤ a .value) current
+
+-- the point that a block's X and Y name
+abbrev pub target : Frame → State → Axes → Point
+target f s a =
+    pointAt
+    (axisTarget (a .x) (s .incremental) (f .origin .x) (s .current .x))
+    (axisTarget (a .y) (s .incremental) (f .origin .y) (s .current .y))
+
+-- ---- A hit, and what is judged of it
+
+abbrev pub hitOf : State → Point → Hit
+hitOf s p = record { place = p; tool = s .tool; nibble = s .nibble }
+
+-- a hit at p, which becomes the current point
+abbrev pub hitting : Progress → Point → Made Progress
+hitting g p =
+    record {
+      hits = hitOf (g .state) p ∷ [];
+      after = record { state = movedTo (g .state) p; blocks = g .blocks; hits = g .hits + 1 };
+    }
+
+unfoldable pub punch : Judging → Frame → ℕ → Point → Progress → Out (Made Progress)
+unfolding near covers
+punch j f line p g = do
+  _ ← need (ltb 0 (g .state .tool)) 14 line
+  _ ← need (judged (j .bounds) (near p)) 15 line
+  _ ← need (judged (j .bounds) (covers (f .machine) p)) 16 line
+  _ ← need (room (j .places) (g .hits)) 17 line
+  done (hitting g p)
+
+-- A position block punches.
+unfoldable pub position : Judging → Frame → ℕ → Axes → ℕ → Progress → Out (Made Progress)
+unfolding punch
+position j f line a t g = punch j f line (target f (g .state) a) (withState g (dropping (choosing (g .state) t)))
+
+-- With G70 it moves only.
+unfoldable pub move : Judging → Frame → ℕ → Axes → ℕ → Progress → Out (Made Progress)
+unfolding near covers
+move j f line a t g = do
+  _ ← need (judged (j .bounds) (near (target f (g .state) a))) 15 line
+  _ ← need (judged (j .bounds) (covers (f .machine) (target f (g .state) a))) 16 line
+  still (withState g (movedTo (dropping (choosing (g .state) t)) (target f (g .state) a)))
+
+-- G72 sets the waiting pattern origin; the current point stays.
+unfoldable pub setOrigin : Judging → Frame → ℕ → Axes → Progress → Out (Made Progress)
+unfolding near
+setOrigin j f line a g = do
+  _ ← need (judged (j .bounds) (near (target f (g .state) a))) 15 line
+  still (withState g (waitingFor (g .state) (At (target f (g .state) a))))

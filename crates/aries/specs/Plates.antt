@@ -1,0 +1,106 @@
+-- The plates M1 to M11 of document 01, as rows of one list: each text with what the definitions make of it.
+use mathlib.Core.Path.{_≡_}
+use mathlib.Core.Bool.{Bool, true, false}
+use mathlib.Core.List.{List, [], _∷_, map}
+use Prim.Native.Nat.{ℕ}
+use Prim.Native.String.{String}
+use lib.IntN.{ℤ, pos}
+use lib.ListN.{length, getD}
+use Rattle.aries.specs.declared.setup.Program.{Program}
+use Rattle.aries.specs.Outcome.{Out, done, refused}
+use Rattle.aries.specs.Text.{bytes, lines, withoutSpaces}
+use Rattle.aries.specs.Hits.{Hit, Made}
+use Rattle.aries.specs.Judging.{lent}
+use Rattle.aries.specs.Moves.{pointAt, zeroPoint}
+use Rattle.aries.specs.Macros.{characters}
+use Rattle.aries.specs.Setup.{freshProgram}
+use Rattle.aries.specs.Program.{expand, runFrom}
+
+-- places for 4,096 hits, as the program hitlist lends
+abbrev pub numbers : ℕ
+numbers = 16384
+
+-- What a row shows: the count of hits and some of them, a refusal with its number and line, or the characters that are
+-- stored in the end.
+pub data Seen : Type 0 where
+  hits : ℕ → List Hit → Seen
+  refusal : ℕ → ℕ → Seen
+  stored : ℕ → Seen
+
+-- what to look at: hits by their indexes, counted from 1, or the stored characters
+pub data View : Type 0 where
+  hitsAt : List ℕ → View
+  storage : View
+
+pub record Row : Type 0 where
+  pub text : String
+  pub view : View
+  pub expected : Seen
+
+abbrev pub noHit : Hit
+noHit = record { place = zeroPoint; tool = 0; nibble = false }
+
+abbrev pub seenHits : List ℕ → Out (List Hit) → Seen
+seenHits indexes (done hs) = hits (length hs) (map (λ k. getD (noHit ∷ hs) k noHit) indexes)
+seenHits indexes (refused number line) = refusal number line
+
+abbrev pub seenStorage : Out (Made Program) → Seen
+unfolding characters
+seenStorage (done m) = stored (characters (m .after .setup .macros))
+seenStorage (refused number line) = refusal number line
+
+abbrev pub seen : View → List ℕ → Seen
+unfolding expand runFrom characters
+seen (hitsAt indexes) text = seenHits indexes (expand text numbers)
+seen storage text = seenStorage (runFrom (lent numbers) (withoutSpaces text) 0 1 (lines (withoutSpaces text)) freshProgram)
+
+unfoldable pub found : Row → Seen
+unfolding expand runFrom bytes characters
+found r = seen (r .view) (bytes (r .text))
+
+-- a hit of tool 2 in mode P
+abbrev pub hit : ℕ → ℕ → Hit
+hit x y = record { place = pointAt (pos x) (pos y); tool = 2; nibble = false }
+
+abbrev pub row : String → View → Seen → Row
+row text view expected = record { text = text; view = view; expected = expected }
+
+abbrev pub allFour : View
+allFour = hitsAt (1 ∷ 2 ∷ 3 ∷ 4 ∷ [])
+
+unfoldable pub plates : List Row
+plates =
+    -- M1: the listing of the program hitlist
+    row "G92 X600. Y600.\nG90 X100. Y100. T2\nG28 I10. J45. K2\nG50\n" (hitsAt (1 ∷ 2 ∷ 3 ∷ []))
+    (hits 3 (hit 10000 10000 ∷ hit 10707 10707 ∷ hit 11414 11414 ∷ []))
+    -- M2: a rack of eight by twelve by rows
+    ∷ row "G92 X600. Y600.\nX50. Y50. T2\nG36 I9. P11 J9. K7\nG50\n" (hitsAt (2 ∷ 96 ∷ []))
+    (hits 96 (hit 5900 5000 ∷ hit 5000 11300 ∷ []))
+    -- M3: by columns
+    ∷ row "G92 X600. Y600.\nX50. Y50. T2\nG37 I9. P11 J9. K7\nG50\n" (hitsAt (96 ∷ []))
+    (hits 96 (hit 14900 5000 ∷ []))
+    -- M4: a line from a pattern origin
+    ∷ row "G92 X600. Y600.\nG72 X300. Y200.\nG28 I25. J30. K6 T2\nG50\n" (hitsAt (1 ∷ 6 ∷ []))
+    (hits 6 (hit 32165 21250 ∷ hit 42990 27500 ∷ []))
+    -- M5: a circle of four
+    ∷ row "G92 X600. Y600.\nG72 X60. Y60.\nG26 I25. J45. K4 T2\nG50\n" allFour
+    (hits 4 (hit 7768 7768 ∷ hit 4232 7768 ∷ hit 4232 4232 ∷ hit 7768 4232 ∷ []))
+    -- M6: a layout of two by two by G76 from the upper right
+    ∷ row "G92 X600. Y600.\nG98 X20. Y100. I250. J150. P1 K1\nU1\nX10. Y10. T2\nV1\nG76 W1 Q4\nG50\n" allFour
+    (hits 4 (hit 28000 26000 ∷ hit 28000 11000 ∷ hit 3000 11000 ∷ hit 3000 26000 ∷ []))
+    -- M7: the same by G75
+    ∷ row "G92 X600. Y600.\nG98 X20. Y100. I250. J150. P1 K1\nU1\nX10. Y10. T2\nV1\nG75 W1 Q4\nG50\n" allFour
+    (hits 4 (hit 28000 26000 ∷ hit 3000 26000 ∷ hit 3000 11000 ∷ hit 28000 11000 ∷ []))
+    -- M8: the end of the range
+    ∷ row "G92 X600. Y600.\nX610.2 T2\nG50\n" (hitsAt (1 ∷ [])) (hits 1 (hit 61020 60000 ∷ []))
+    -- M9: past it
+    ∷ row "G92 X600. Y600.\nX610.21 T2\nG50\n" (hitsAt []) (refusal 16 2)
+    -- M10: a macro that calls itself
+    ∷ row "G92 X600. Y600.\nU60\nW60\nV60\nW60\nG50\n" (hitsAt []) (refusal 11 3)
+    -- M11: the characters of a body
+    ∷ row "G92 X600. Y600.\nU60\nG90X100.Y100.T20\nV60\nG50\n" storage (stored 17)
+    ∷ []
+
+-- The theorem: every row shows what it says.
+abbrev pub PlatesHold : Type 0
+PlatesHold = map found plates ≡ map (λ r. r .expected) plates

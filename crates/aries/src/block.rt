@@ -1,0 +1,150 @@
+use crate::point::Point;
+
+// The kinds of block: by the G code or, without one, by the letters.
+pub enum Kind {
+    G26,
+    G28,
+    G29,
+    G36,
+    G37,
+    G50,
+    G70,
+    G72,
+    G75,
+    G76,
+    G92,
+    G93,
+    G98,
+    Position,
+    Lone,
+    LetterM,
+    LetterB,
+    LetterU,
+    LetterV,
+    LetterW,
+    Unknown,
+}
+
+// One axis of a block: its value where it is written.
+pub struct Axis {
+    pub written: bool,
+    pub value: i32,
+}
+
+// The X and Y words of a block.
+pub struct Axes {
+    pub x: Axis,
+    pub y: Axis,
+}
+
+// Steps from the first place of a grid or layout to the last one, along X and along Y: one less than its columns and
+// its rows.
+pub struct Steps {
+    pub x: u16,
+    pub y: u16,
+}
+
+// The pitches of a layout.
+pub struct Pitch {
+    pub x: u32,
+    pub y: u32,
+}
+
+// A pattern code with its numbers.
+pub enum Pattern {
+    // G28: count hits, the k-th at k times the pitch
+    Line {
+        pitch: i32,
+        angle: i32,
+        count: u16,
+    },
+    // G29
+    Arc {
+        radius: i32,
+        angle: i32,
+        step: i32,
+        count: u16,
+    },
+    // G26
+    Circle {
+        radius: i32,
+        angle: i32,
+        clockwise: bool,
+        count: u16,
+    },
+    // G36, row by row; vertical is G37, column by column
+    Grid {
+        vertical: bool,
+        pitch: Point,
+        steps: Steps,
+    },
+}
+
+// What G98 sets: the reference point, the pitches with D added, and the steps P and K.
+pub struct Layout {
+    pub reference: Point,
+    pub pitch: Pitch,
+    pub steps: Steps,
+}
+
+// A G75 block, or with vertical a G76 block: the part that it copies and the corner where it starts, by Q.
+pub struct Copies {
+    pub vertical: bool,
+    pub part: u8,
+    pub corner: u8,
+}
+
+// What a block asks for. A tool of 0 is no T, a memory of 0 no A.
+pub enum Block {
+    // G92
+    Machine(Point),
+    // G50
+    End,
+    // a lone G90 or G91
+    Read,
+    // X or Y without a code: a hit
+    Punch(Axes, u8),
+    // G70
+    Move(Axes, u8),
+    // G72
+    Origin(Axes),
+    // G93
+    Offset(Axes),
+    // G98
+    Place(Layout),
+    // a pattern code
+    Run(Pattern, u8, u8),
+    // B
+    Recall(u8),
+    // M12, and M13 with false
+    Nibble(bool),
+    // M00, M01, M08, M09
+    Idle,
+    // U
+    Open(u8),
+    // V
+    Close(u8),
+    // W
+    Call(u8),
+    // G75 and G76
+    Copy(Copies),
+}
+
+// How X and Y are read from a block on: as before, by G90 or by G91.
+pub enum Measure {
+    Kept,
+    Absolute,
+    Incremental,
+}
+
+// A block with the G90 or G91 that stands in it.
+pub struct Instruction {
+    pub measure: Measure,
+    pub block: Block,
+}
+
+// What a line comes to: an instruction, or a refusal's number and line.
+pub enum Decoded {
+    Instruction(Instruction),
+    Refused(u8, u64),
+}

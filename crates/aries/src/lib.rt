@@ -1,0 +1,10 @@
+// ARIES punch code: the types that a program text is read into and carried out with.
+// What they mean is said by the definitions in specs/, which follow document 01 in its order.
+pub mod answer; // what a text comes to
+pub mod block; // what a block asks for
+pub mod machine; // the two machines and their punching range
+pub mod macros; // the bodies that are stored
+pub mod point; // points of the sheet
+pub mod setup; // what only blocks outside bodies change
+pub mod state; // what one block leaves to the next
+pub mod words; // the words of a block

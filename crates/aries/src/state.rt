@@ -1,0 +1,248 @@
+use crate::block::Measure;
+use crate::block::Pattern;
+use crate::machine::Machine;
+use crate::point::Point;
+ghost use mathlib.Core.Path.{_≡_};
+ghost use Prim.Native.Nat.{_-_, _<_, _≤_};
+ghost use lib.ListN.{getD};
+ghost use Rattle.aries.specs.declared.state.Waiting.the-variants.{At};
+ghost use Rattle.aries.specs.declared.state.Status.the-variants.{Passed, Refused};
+ghost use Rattle.aries.specs.Moves.{
+  movedTo,
+  waitingFor,
+  inMode,
+  choosing,
+  remembering,
+  measuring,
+  dropping,
+  freshState,
+  withState,
+};
+ghost use Rattle.aries.specs.Patterns.{startOf, emptyMemory};
+ghost use Rattle.aries.specs.Macros.{begun};
+ghost use Rattle.aries.specs.Judging.{mostBlocks};
+
+// The pattern origin that G72 set and no pattern has used up yet.
+pub enum Waiting {
+    Unset,
+    At(Point),
+}
+
+// A pattern memory.
+pub enum Stored {
+    Empty,
+    Kept(Pattern),
+}
+
+pub struct Memory {
+    pub stored: Stored,
+}
+
+// The punching state: what a block of a body leaves to the next. A tool of 0 is none chosen.
+pub struct State {
+    pub current: Point,
+    pub waiting: Waiting,
+    pub incremental: bool,
+    pub nibble: bool,
+    pub tool: u8,
+    pub memories: [Memory; 5],
+}
+
+impl State {
+    // The state at the start: G90 holds, the mode is P, no tool is chosen and nothing is stored.
+    pub fn fresh() -> State
+        ensures { λ r. ⌜ r ≡ freshState ⌝ }
+    {
+        let current = Point { x: 0, y: 0 };
+        let empty = Memory {
+            stored: Stored::Empty,
+        };
+        let memories = [empty; 5];
+        State {
+            current,
+            waiting: Waiting::Unset,
+            incremental: false,
+            nibble: false,
+            tool: 0,
+            memories,
+        }
+    }
+
+    // The state with another current point.
+    pub fn moved_to(mut self, p: Point) -> State
+        ensures { λ r. ⌜ r ≡ movedTo self p ⌝ }
+    {
+        self.current = p;
+        self
+    }
+
+    // The state with this as what waits.
+    pub fn waiting_for(self, waiting: Waiting) -> State
+        ensures { λ r. ⌜ r ≡ waitingFor self waiting ⌝ }
+    {
+        let current = self.current;
+        let memories = self.memories;
+        State {
+            current,
+            waiting,
+            incremental: self.incremental,
+            nibble: self.nibble,
+            tool: self.tool,
+            memories,
+        }
+    }
+
+    // The state with no pattern origin waiting.
+    pub fn dropping(self) -> State
+        ensures { λ r. ⌜ r ≡ dropping self ⌝ }
+    {
+        self.waiting_for(Waiting::Unset)
+    }
+
+    // The state with a pattern origin waiting.
+    pub fn waiting_at(self, p: Point) -> State
+        ensures { λ r. ⌜ r ≡ waitingFor self (At p) ⌝ }
+    {
+        self.waiting_for(Waiting::At(p))
+    }
+
+    // The state in mode N, or with false in mode P.
+    pub fn in_mode(mut self, nibble: bool) -> State
+        ensures { λ r. ⌜ r ≡ inMode self nibble ⌝ }
+    {
+        self.nibble = nibble;
+        self
+    }
+
+    // The state with the tool of a T word; 0 is no T.
+    pub fn choosing(mut self, tool: u8) -> State
+        ensures { λ r. ⌜ r ≡ choosing self tool ⌝ }
+    {
+        if 0 < tool {
+            self.tool = tool;
+        }
+        self
+    }
+
+    // The state with a pattern in memory n; 0 is no A.
+    pub fn remembering(mut self, n: u8, p: Pattern) -> State
+        requires { ⌜ n ≤ 5 ⌝ }
+        ensures { λ r. ⌜ r ≡ remembering self n p ⌝ }
+    {
+        if 0 < n {
+            let place = (n - 1) as usize;
+            let memory = Memory {
+                stored: Stored::Kept(p),
+            };
+            self.memories[place] = memory;
+        }
+        self
+    }
+
+    // The state once a block's G90 or G91 holds.
+    pub fn measuring(mut self, m: Measure) -> State
+        ensures { λ r. ⌜ r ≡ measuring self m ⌝ }
+    {
+        match m {
+            Measure::Kept => self,
+            Measure::Absolute => {
+                self.incremental = false;
+                self
+            }
+            Measure::Incremental => {
+                self.incremental = true;
+                self
+            }
+        }
+    }
+
+    // Where a pattern starts: at the waiting origin, or else at the current point.
+    pub fn start(self) -> Point
+        ensures { λ r. ⌜ r ≡ startOf self ⌝ }
+    {
+        let waiting = self.waiting;
+        match waiting {
+            Waiting::Unset => self.current,
+            Waiting::At(origin) => origin,
+        }
+    }
+
+    // What pattern memory n holds.
+    pub fn memory(self, n: u8) -> Stored
+        requires { ⌜ (1 ≤ n) × (n ≤ 5) ⌝ }
+        ensures { λ r. ⌜ r ≡ getD (self .memories) (n - 1) emptyMemory .stored ⌝ }
+    {
+        let place = (n - 1) as usize;
+        let memory = self.memories[place];
+        memory.stored
+    }
+}
+
+// Where X and Y are measured from, and the machine whose range is judged.
+pub struct Frame {
+    pub machine: Machine,
+    pub origin: Point,
+}
+
+// A state with the count of blocks carried out and of hits made so far.
+pub struct Progress {
+    pub state: State,
+    pub blocks: u32,
+    pub hits: usize,
+}
+
+impl Progress {
+    // The same counts with another state.
+    pub fn with_state(mut self, s: State) -> Progress
+        ensures { λ r. ⌜ r ≡ withState self s ⌝ }
+    {
+        self.state = s;
+        self
+    }
+
+    // One block more, with its G90 or G91.
+    pub fn begun(mut self, m: Measure) -> Progress
+        requires { ⌜ self .blocks < mostBlocks ⌝ }
+        ensures { λ r. ⌜ r ≡ begun self m ⌝ }
+    {
+        let state = self.state;
+        let measured = state.measuring(m);
+        self.state = measured;
+        self.blocks += 1;
+        self
+    }
+}
+
+// Whether all went well, or a refusal's number and line.
+pub enum Status {
+    Passed,
+    Refused(u8, u64),
+}
+
+// What carrying something out leaves. After a refusal the progress is of no account.
+pub struct Outcome {
+    pub status: Status,
+    pub progress: Progress,
+}
+
+impl Outcome {
+    // All went well.
+    pub fn passed(progress: Progress) -> Outcome
+        ensures { λ r. ⌜ r ≡ record { status = Passed; progress = progress } ⌝ }
+    {
+        Outcome {
+            status: Status::Passed,
+            progress,
+        }
+    }
+
+    // A refusal, at a line.
+    pub fn refused(number: u8, line: u64, progress: Progress) -> Outcome
+        ensures { λ r. ⌜ r ≡ record { status = Refused number line; progress = progress } ⌝ }
+    {
+        Outcome {
+            status: Status::Refused(number, line),
+            progress,
+        }
+    }
+}
