@@ -1,5 +1,27 @@
+-- The plates of document 01, by computation.
+pub mod Plates
+-- Laws of the definitions.
+pub mod Points
+pub mod Counts
+pub mod Outcomes
+pub mod Joined
+pub mod Lanes
+pub mod CopyPlaces
+-- Demand 3: a body against itself moved and without limits, a part at a place, all copies, a run; then the four theorems.
+pub mod Follows
+pub mod BodyRuns
+pub mod Parts
+pub mod Copies
+pub mod CopyRuns
+pub mod LayoutSentence
+pub mod ReferenceMoves
+pub mod Orders
+pub mod BothOrNeither
+-- What makes them theorems about programs.
+pub mod Ordinary
+pub mod CopyBlocks
+-- Laws that the functions' proofs cite.
 pub mod Judging
 pub mod Named
-pub mod Plates
 pub mod Runs
 pub mod Storage

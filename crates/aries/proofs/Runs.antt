@@ -10,7 +10,9 @@ use Rattle.aries.specs.declared.state.Status.{Status}
 use Rattle.aries.specs.declared.state.Status.the-variants.{Passed, Refused}
 use Rattle.aries.specs.Outcome.{Out, done, refused}
 use Rattle.aries.specs.Hits.{Hit, Made, still, adding, andThen, leaving}
-use Rattle.aries.specs.Runs.{statusOf, put, over, Ran}
+use Rattle.aries.specs.declared.state.Outcome.{Outcome}
+use Rattle.aries.specs.declared.state.Progress.{Progress}
+use Rattle.aries.specs.Runs.{statusOf, put, over, Ran, Carried}
 
 -- ---- The list
 
@@ -156,3 +158,44 @@ ran-leaving {A} {B} hitsA hitsB f same (done m) status left before after k h =
     (ran-made hitsB (record { hits = m .hits; after = f (m .after) }) before after k (h .written m refl)
     (same (m .after) ∙ sym (ap hitsA (h .same-left m refl)) ∙ h .counted m refl)
     (λ r. let e : hitsB (f (m .after)) ≡ hitsA left = same (m .after) ∙ sym (ap hitsA (h .same-left m refl)) in let g : 4 * hitsA left ≤ length before = h .fitted m refl r in omega arith)))
+
+-- ---- Outcomes of body blocks made outright
+
+pub carried-still : (r : Outcome) (g : Progress) (list : List ℤ) → r ≡ record { status = Passed; progress = g } → Carried r list list (g .hits) (still g)
+carried-still r g list e = rw e (ran-still (λ (g : Progress). g .hits) g list)
+
+pub carried-refused :
+    (r : Outcome) (g : Progress) (before after : List ℤ) (k number line : ℕ)
+    → r ≡ record { status = Refused number line; progress = g } → Carried r before after k (refused number line)
+carried-refused r g before after k number line e = rw e (ran-refused (λ (g : Progress). g .hits) g before after k number line)
+
+-- ---- Loops: whoever does what is left, from this list and count on, has done the whole
+
+abbrev pub Leads : {A : Type 0} → (A → ℕ) → List ℤ → ℕ → Out (Made A) → List ℤ → ℕ → Out (Made A) → Type 0
+Leads {A} hitsOf list k rest list₀ k₀ whole =
+    (status : Status) (left : A) (after : List ℤ) → Ran hitsOf status left list after k rest → Ran hitsOf status left list₀ after k₀ whole
+
+module _ {A : Type 0} (hitsOf : A → ℕ) (list₀ : List ℤ) (k₀ : ℕ) (whole : Out (Made A)) where
+  -- at the start all is left
+  pub leads-start : {rest : Out (Made A)} → rest ≡ whole → Leads hitsOf list₀ k₀ rest list₀ k₀ whole
+  leads-start e status left after h = rw e at h
+
+  -- what is left, by another name
+  pub leads-as : (list : List ℤ) (k : ℕ) {rest rest' : Out (Made A)} → rest' ≡ rest → Leads hitsOf list k rest' list₀ k₀ whole → Leads hitsOf list k rest list₀ k₀ whole
+  leads-as list k e lead = rw e at lead
+
+  -- a turn that passed
+  pub leads-on :
+      (first : Out (Made A)) (rest : A → Out (Made A)) (now : A) (list mid : List ℤ) (k : ℕ) → Ran hitsOf Passed now list mid k first
+      → Leads hitsOf list k (andThen first rest) list₀ k₀ whole → Leads hitsOf mid (hitsOf now) (rest now) list₀ k₀ whole
+  leads-on first rest now list mid k ran lead status left after h = lead status left after (ran-then hitsOf first rest status now left list mid after k ran h)
+
+  -- a turn that was refused
+  pub leads-out :
+      (first : Out (Made A)) (rest : A → Out (Made A)) (left : A) (list after : List ℤ) (k number line : ℕ) → Ran hitsOf (Refused number line) left list after k first
+      → Leads hitsOf list k (andThen first rest) list₀ k₀ whole → Ran hitsOf (Refused number line) left list₀ after k₀ whole
+  leads-out first rest left list after k number line ran lead = lead (Refused number line) left after (ran-stop hitsOf first rest left left list after after k k number line ran)
+
+  -- nothing is left
+  pub leads-end : (now : A) (list : List ℤ) → Leads hitsOf list (hitsOf now) (still now) list₀ k₀ whole → Ran hitsOf Passed now list₀ list k₀ whole
+  leads-end now list lead = lead Passed now list (ran-still hitsOf now list)

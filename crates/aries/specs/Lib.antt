@@ -19,4 +19,6 @@ pub mod Setup
 pub mod Program
 pub mod Runs
 pub mod CopyRuns
+pub mod Ordinary
+pub mod CopyBlocks
 pub mod Plates

@@ -5,6 +5,8 @@ pub mod block; // what a block asks for
 pub mod machine; // the two machines and their punching range
 pub mod macros; // the bodies that are stored
 pub mod point; // points of the sheet
+pub mod refusal; // the refusals by their numbers
 pub mod setup; // what only blocks outside bodies change
 pub mod state; // what one block leaves to the next
+pub mod theorems; // what is proved of the definitions alone
 pub mod words; // the words of a block

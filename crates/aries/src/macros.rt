@@ -12,7 +12,7 @@ pub struct Macros {
 
 // A stored body: where it starts and ends, and the line of its start.
 pub enum Found {
-    Body(usize, usize, u64),
+    Body(usize, usize, u16),
     Nothing,
 }
 
@@ -41,7 +41,7 @@ impl Macros {
         }
         let start = self.start[n];
         let end = self.end[n];
-        Found::Body(start as usize, end as usize, line as u64)
+        Found::Body(start as usize, end as usize, line)
     }
 
     // With the body of a macro in place of its old one.

@@ -44,9 +44,6 @@ cast-t9 c = search needs
 cast-t17 : tie.Need-cast-t17
 cast-t17 c = search needs
 
-cast-t18 : tie.Need-cast-t18
-cast-t18 c = search needs
-
 returns-3 : tie.Need-returns-3
 returns-3 c =
     let a = c .before .before .before .before .before .args in
@@ -66,5 +63,4 @@ find-spec =
     element-copy-out-end
     cast-t9
     cast-t17
-    cast-t18
     returns-3)

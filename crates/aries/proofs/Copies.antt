@@ -1,0 +1,165 @@
+-- All copies of a run, one after the other: their hits, and when none of them is refused.
+use mathlib.Core.Path.{_≡_, refl, sym, ap, ap₂, _∙_, subst}
+use mathlib.Core.Bool.{Bool, true, false}
+use mathlib.Core.List.{[], _++_, map}
+use Prim.Native.Nat.{ℕ, zero, suc, _+_, _<_, _≤_}
+use native.Mathlib.Omega.{arith}
+use borrow.Author.Tests.{ltb-true, ltb-false}
+use lib.Dec.{ltb}
+use Rattle.aries.specs.declared.point.Point.{Point}
+use Rattle.aries.specs.declared.state.Progress.{Progress}
+use Rattle.aries.specs.Outcome.{Out, done}
+use Rattle.aries.specs.Hits.{Made}
+use Rattle.aries.specs.Judging.{Judging, near, lent}
+use Rattle.aries.specs.Layouts.{partOf, copy, copyAll}
+use Rattle.aries.specs.Setup.{ordinaryFrame}
+use Rattle.aries.specs.CopyRuns.{Circumstances, Accepted, hitsOf, movedBy, joined}
+use Rattle.aries.proofs.Outcomes.{done-injective, need-accepted, Both, then-accepted, accepted-then}
+use Rattle.aries.proofs.Counts.{Counts, countsOf, nothing, _⊞_, times, times-suc, Up, up-unique, Fit, fit-nothing, fit-front, fit-back, fit-joined}
+use Rattle.aries.proofs.Follows.{Followed, follows-accepted, follows-fitting}
+use Rattle.aries.proofs.BodyRuns.{unlimited}
+use Rattle.aries.proofs.Parts.{partAt, ownRun, part-own, part-bounds}
+
+module _ (c : Circumstances) where
+  -- what the run judges
+  abbrev pub limits : Judging
+  limits = lent (c .numbers)
+
+  -- one copy, and copies m, m + 1, .., so many of them
+  abbrev copyTo : Point → Progress → Out (Made Progress)
+  copyTo p g =
+      copy limits (partOf limits (c .text) (c .setup) (c .part)) (ordinaryFrame (c .setup)) (c .line) (c .before .state) p g
+
+  abbrev pub copies : (ℕ → Point) → ℕ → ℕ → Progress → Out (Made Progress)
+  copies place k m g =
+      copyAll limits (partOf limits (c .text) (c .setup) (c .part)) (ordinaryFrame (c .setup)) (c .line) (c .before .state) place k m g
+
+  -- the part at a place by bounds alone, from nothing
+  abbrev byBounds : Point → Out (Made Progress)
+  byBounds p = partAt c (unlimited true) p nothing
+
+  -- ---- One copy
+
+  -- it passes by bounds alone: its place, and all that it carries out there
+  pub record Passes (p : Point) : Type 0 where
+    pub is-near : near p ≡ true
+    pub is-accepted : Accepted (byBounds p)
+
+  -- the own run is accepted, and how far its counts go up
+  pub record Own (n′ : Counts) : Type 0 where
+    pub result : Made Progress
+    pub by : Counts
+    pub result-is : ownRun c n′ ≡ done result
+    pub up : Up n′ (countsOf (result .after)) by
+
+  -- one that was accepted, beside the own run from other counts
+  pub record Copied (p : Point) (n n′ : Counts) (m : Made Progress) : Type 0 where
+    pub own : Followed limits p n n′ m (ownRun c n′)
+    pub passes : Passes p
+
+  copy-accepted : (p : Point) (g : Progress) (n′ : Counts) (m : Made Progress) → copyTo p g ≡ done m → Copied p (countsOf g) n′ m
+  unfolding copy
+  copy-accepted p g n′ m e =
+      let n = countsOf g in
+      let q = need-accepted (near p) 15 (c .line) (partAt c limits p n) m e in
+      let b = follows-accepted (partAt c limits p n) (byBounds p) m (q .1) (part-bounds c limits p n nothing) in
+      record {
+        own = follows-accepted (partAt c limits p n) (ownRun c n′) m (q .1) (part-own c limits p n n′);
+        passes = record { is-near = q .0; is-accepted = (b .other, b .other-is) };
+      }
+
+  -- ---- The hits of all copies
+
+  module _ (place : ℕ → Point) where
+    -- the first copy and the others
+    parted :
+        (k m : ℕ) (g : Progress) (r : Made Progress) → copies place (suc k) m g ≡ done r → Both (copyTo (place m) g) (copies place k (suc m)) r
+    unfolding copyAll
+    parted k m g r e = then-accepted (copyTo (place m) g) (copies place k (suc m)) r e
+
+    -- for each m in turn, the own hits moved to its place
+    pub copies-hits :
+        (n′ : Counts) (k m : ℕ) (g : Progress) (r : Made Progress) → copies place k m g ≡ done r
+        → r .hits ≡ joined (λ i. map (movedBy (place i)) (hitsOf (ownRun c n′))) k m
+    unfolding copyAll joined
+    copies-hits n′ zero m g r e = sym (ap hitsOf e)
+    copies-hits n′ (suc k) m g r e =
+        let t = parted k m g r e in
+        let o = copy-accepted (place m) g n′ (t .first) (t .first-is) .own in
+        t .hits-are
+        ∙ ap₂ _++_ (o .together .moved ∙ ap (λ (y : Out (Made Progress)). map (movedBy (place m)) (hitsOf y)) (sym (o .other-is)))
+        (copies-hits n′ k (suc m) (t .first .after) (t .second) (t .second-is))
+
+    -- where there are copies and they are accepted, so is the own run
+    pub copies-own : (n′ : Counts) (k m : ℕ) (g : Progress) (r : Made Progress) → 0 < k → copies place k m g ≡ done r → Own n′
+    copies-own n′ zero m g r p e = absurd (omega arith)
+    copies-own n′ (suc k) m g r p e =
+        let t = parted k m g r e in
+        let o = copy-accepted (place m) g n′ (t .first) (t .first-is) .own in
+        record { result = o .other; by = o .by; result-is = o .other-is; up = o .together .up′ }
+
+  -- ---- When they are accepted
+
+  module _ (n′ : Counts) (w : Own n′) where
+    -- whatever goes along with the own run counts as many
+    counts-as-own : {j : Judging} {v : Point} {n : Counts} {m : Made Progress} (o : Followed j v n n′ m (ownRun c n′)) → o .by ≡ w .by
+    counts-as-own o =
+        up-unique (o .together .up′)
+        (subst (λ (m : Made Progress). Up n′ (countsOf (m .after)) (w .by)) (done-injective _ _ (sym (w .result-is) ∙ o .other-is)) (w .up))
+
+    -- every copy passes by bounds, and what all of them count fits
+    pub record AllPass (place : ℕ → Point) (k m : ℕ) (n : Counts) : Type 0 where
+      pub passing : (i : ℕ) → m ≤ i → i < m + k → Passes (place i)
+      pub fit : Fit limits n (times k (w .by))
+
+    -- an accepted copy goes up as the own run does, which fits
+    copy-fits : {p : Point} {n : Counts} {m : Made Progress} → Copied p n n′ m → Up n (countsOf (m .after)) (w .by) × Fit limits n (w .by)
+    copy-fits {n = n} {m = m} x =
+        let e = counts-as-own (x .own) in
+        (subst (Up n (countsOf (m .after))) e (x .own .together .up), subst (Fit limits n) e (x .own .together .fit))
+
+    pub copies-accepted :
+        (place : ℕ → Point) (k m : ℕ) (g : Progress) (r : Made Progress) → copies place k m g ≡ done r → AllPass place k m (countsOf g)
+    copies-accepted place zero m g r e = record { passing = λ i p q. absurd (omega arith); fit = fit-nothing (omega arith) (omega arith) }
+    copies-accepted place (suc k) m g r e =
+        let t = parted place k m g r e in
+        let x = copy-accepted (place m) g n′ (t .first) (t .first-is) in
+        let u = copy-fits x in
+        let y = copies-accepted place k (suc m) (t .first .after) (t .second) (t .second-is) in
+        record {
+          passing = λ i p q. go (x .passes) (y .passing) i p q (ltb m i) refl;
+          fit = subst (Fit limits (countsOf g)) (sym (times-suc k (w .by))) (fit-joined (w .by) (times k (w .by)) (u .0) (u .1) (y .fit));
+        }
+      where
+        go :
+            Passes (place m) → ((i : ℕ) → suc m ≤ i → i < suc m + k → Passes (place i))
+            → (i : ℕ) → m ≤ i → i < m + suc k → (later : Bool) → ltb m i ≡ later → Passes (place i)
+        go x y i p q true e = y i (ltb-true m i e) (omega arith)
+        go x y i p q false e =
+            let d : m ≡ i = let l : i ≤ m = ltb-false m i e in omega arith in
+            subst (λ (i : ℕ). Passes (place i)) d x
+
+    -- a copy that passes by bounds is accepted where what it counts fits
+    copy-fitting : (p : Point) (g : Progress) → Passes p → Fit limits (countsOf g) (w .by) → Accepted (copyTo p g)
+    unfolding copy
+    copy-fitting p g x f =
+        let n = countsOf g in
+        let m = x .is-accepted .0 in
+        let e = x .is-accepted .1 in
+        let o = follows-accepted (byBounds p) (ownRun c n′) m e (part-own c (unlimited true) p nothing n′) in
+        rw (x .is-near)
+        (follows-fitting (partAt c limits p n) (byBounds p) m e (part-bounds c limits p n nothing) tt
+        (λ d u. subst (Fit limits n) (sym (counts-as-own o) ∙ up-unique (o .together .up) u) f))
+
+    pub accepted-copies : (place : ℕ → Point) (k m : ℕ) (g : Progress) → AllPass place k m (countsOf g) → Accepted (copies place k m g)
+    unfolding copyAll
+    accepted-copies place zero m g x = (record { hits = []; after = g }, refl)
+    accepted-copies place (suc k) m g x =
+        let f : Fit limits (countsOf g) (w .by ⊞ times k (w .by)) = subst (Fit limits (countsOf g)) (times-suc k (w .by)) (x .fit) in
+        let y = copy-fitting (place m) g (x .passing m (omega arith) (omega arith)) (fit-front (w .by) (times k (w .by)) f) in
+        let u = copy-fits (copy-accepted (place m) g n′ (y .0) (y .1)) in
+        let z = accepted-copies place k (suc m) (y .0 .after)
+        (record { passing = λ i p q. x .passing i (omega arith) (omega arith); fit = fit-back (w .by) (times k (w .by)) (u .0) f }) in (
+          record { hits = y .0 .hits ++ z .0 .hits; after = z .0 .after },
+          accepted-then (copyTo (place m) g) (copies place k (suc m)) (y .0) (z .0) (y .1) (z .1),
+        )

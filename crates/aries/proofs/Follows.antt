@@ -1,0 +1,196 @@
+-- One thing carried out twice: y without limits on blocks and places, and x where more may be judged, from a state moved by
+-- a vector, whatever was counted before. The relation, and what it comes to where things are carried out one after the
+-- other.
+use mathlib.Core.Path.{_≡_, refl, sym, _∙_, subst}
+use mathlib.Core.Bool.{Bool, true, false, true≢false}
+use mathlib.Core.List.{List, [], _∷_, _++_, map, map-append}
+use Prim.Native.Nat.{ℕ}
+use Rattle.aries.specs.declared.point.Point.{Point}
+use Rattle.aries.specs.declared.state.Waiting.{Waiting}
+use Rattle.aries.specs.declared.state.Waiting.the-variants.{Unset, At}
+use Rattle.aries.specs.declared.state.State.{State}
+use Rattle.aries.specs.declared.state.Frame.{Frame}
+use Rattle.aries.specs.declared.state.Progress.{Progress}
+use Rattle.aries.specs.Outcome.{Out, done, refused, _>>=_, need}
+use Rattle.aries.specs.Hits.{Hit, Made, still, adding, andThen, leaving}
+use Rattle.aries.specs.Judging.{Judging, room}
+use Rattle.aries.specs.Moves.{_⊕_}
+use Rattle.aries.specs.CopyRuns.{movedBy}
+use Rattle.aries.proofs.Counts.{Counts, countsOf, nothing, _⊞_, anotherBlock, anotherHit, oneBlock, oneHit, Up, up-nothing, up-block, up-hit, up-joined, Fit, fit-nothing, fit-block, fit-hit, block-fits, hit-fits, fit-front, fit-back, fit-joined}
+
+-- ---- Moved by a vector
+
+abbrev pub movedWaiting : Point → Waiting → Waiting
+movedWaiting v Unset = Unset
+movedWaiting v (At p) = At (p ⊕ v)
+
+-- current point and waiting origin, nothing else
+abbrev pub movedState : Point → State → State
+movedState v s =
+    record {
+      current = s .current ⊕ v;
+      waiting = movedWaiting v (s .waiting);
+      incremental = s .incremental;
+      nibble = s .nibble;
+      tool = s .tool;
+      memories = s .memories;
+    }
+
+abbrev pub movedFrame : Point → Frame → Frame
+movedFrame v f = record { machine = f .machine; origin = f .origin ⊕ v }
+
+-- ---- A state with counts
+
+abbrev pub progress : State → Counts → Progress
+progress s n = record { state = s; blocks = n .blocks; hits = n .hits }
+
+abbrev pub made : List Hit → State → Counts → Made Progress
+made hs s n = record { hits = hs; after = progress s n }
+
+-- ---- The relation
+
+-- a test and one that is passed wherever it is; where E holds, the two are the same
+pub data Looser (E : Type 0) : Bool → Bool → Type 0 where
+  alike : {t : Bool} → Looser E t t
+  dropped : (E → ⊥) → Looser E false true
+
+-- Both are refused; or both are accepted, x with hits and state moved and both with counts that go up by as many; or x
+-- alone is refused, though where E holds only when what is counted does not fit. The counts before were n and n′.
+pub data Follows (E : Type 0) (j : Judging) (v : Point) (n n′ : Counts) : Out (Made Progress) → Out (Made Progress) → Type 0 where
+  refusals : {number line number′ line′ : ℕ} → Follows E j v n n′ (refused number line) (refused number′ line′)
+  moves :
+      {hs : List Hit} {s : State} {m m′ : Counts} (d : Counts) → Up n m d → Up n′ m′ d → Fit j n d
+      → Follows E j v n n′ (done (made (map (movedBy v) hs) (movedState v s) m)) (done (made hs s m′))
+  stops :
+      {number line : ℕ} {hs : List Hit} {s : State} {m′ : Counts} (d : Counts) → Up n′ m′ d → (E → Fit j n d → ⊥)
+      → Follows E j v n n′ (refused number line) (done (made hs s m′))
+
+-- x follows y from every state, moved for x, and whatever was counted
+abbrev pub Beside : Type 0 → Judging → Point → (Progress → Out (Made Progress)) → (Progress → Out (Made Progress)) → Type 0
+Beside E j v x y = (s : State) (n n′ : Counts) → Follows E j v n n′ (x (progress (movedState v s) n)) (y (progress s n′))
+
+module _ {E : Type 0} {j : Judging} {v : Point} where
+  -- nothing is hit or counted
+  pub follows-still : Beside E j v still still
+  follows-still s n n′ = moves {hs = []} {s = s} {m = n} {m′ = n′} nothing (up-nothing n) (up-nothing n′) (fit-nothing refl refl)
+
+  -- where x is refused, it need only be said why
+  follows-refused :
+      {n n′ : Counts} {x y : Out (Made Progress)} (number line : ℕ) → (E → ⊥) → Follows E j v n n′ x y → Follows E j v n n′ (refused number line) y
+  follows-refused number line why refusals = refusals
+  follows-refused number line why (moves d u u′ f) = stops d u′ (λ e _. why e)
+  follows-refused number line why (stops d u′ f) = stops d u′ f
+
+  -- past a test
+  pub follows-need :
+      {n n′ : Counts} {x y : Out (Made Progress)} {t t′ : Bool} (number line : ℕ) → Looser E t t′ → Follows E j v n n′ x y
+      → Follows E j v n n′ (_>>=_ (need t number line) (λ _. x)) (_>>=_ (need t′ number line) (λ _. y))
+  follows-need number line (alike {t = true}) r = r
+  follows-need number line (alike {t = false}) r = refusals
+  follows-need number line (dropped e) r = follows-refused number line e r
+
+  -- hits, and then what is made
+  follows-adding :
+      {n n′ m m′ : Counts} {x y : Out (Made Progress)} (hs : List Hit) (d : Counts) → Up n m d → Up n′ m′ d → Fit j n d
+      → Follows E j v m m′ x y → Follows E j v n n′ (adding (map (movedBy v) hs) x) (adding hs y)
+  follows-adding hs d u u′ f refusals = refusals
+  follows-adding {n} {n′} hs d u u′ f (moves {hs = gs} {s} {m = k} {m′ = k′} e w w′ g) =
+      subst (λ (l : List Hit). Follows E j v n n′ (done (made l (movedState v s) k)) (done (made (hs ++ gs) s k′))) (map-append (movedBy v) hs gs)
+      (moves {hs = hs ++ gs} {s = s} {m = k} {m′ = k′} (d ⊞ e) (up-joined u w) (up-joined u′ w′) (fit-joined d e u f g))
+  follows-adding hs d u u′ f (stops {hs = gs} {s} {m′ = k′} e w′ g) =
+      stops {hs = hs ++ gs} {s = s} {m′ = k′} (d ⊞ e) (up-joined u′ w′) (λ i a. g i (fit-back d e u a))
+
+  -- where x has stopped, y goes on alone
+  follows-alone :
+      {n n′ m m′ : Counts} {number line : ℕ} {x y : Out (Made Progress)} (hs : List Hit) (d : Counts) → Up n′ m′ d → (E → Fit j n d → ⊥)
+      → Follows E j v m m′ x y → Follows E j v n n′ (refused number line) (adding hs y)
+  follows-alone hs d u′ f refusals = refusals
+  follows-alone hs d u′ f (moves {hs = gs} {s} {m′ = k′} e w w′ g) =
+      stops {hs = hs ++ gs} {s = s} {m′ = k′} (d ⊞ e) (up-joined u′ w′) (λ i a. f i (fit-front d e a))
+  follows-alone hs d u′ f (stops {hs = gs} {s} {m′ = k′} e w′ g) =
+      stops {hs = hs ++ gs} {s = s} {m′ = k′} (d ⊞ e) (up-joined u′ w′) (λ i a. f i (fit-front d e a))
+
+  -- one thing after the other
+  pub follows-then :
+      {n n′ : Counts} {x y : Out (Made Progress)} (f g : Progress → Out (Made Progress)) → Follows E j v n n′ x y → Beside E j v f g
+      → Follows E j v n n′ (andThen x f) (andThen y g)
+  follows-then f g refusals r = refusals
+  follows-then f g (moves {hs} {s} {m} {m′} d u u′ k) r = follows-adding hs d u u′ k (r s m m′)
+  follows-then f g (stops {hs = hs} {s} {m′} d u′ k) r = follows-alone hs d u′ k (r s nothing m′)
+
+  -- what is left, changed in the state only
+  pub follows-leaving :
+      {n n′ : Counts} {x y : Out (Made Progress)} (f g : State → State) → Follows E j v n n′ x y → ((s : State) → f (movedState v s) ≡ movedState v (g s))
+      → Follows E j v n n′ (leaving (λ p. progress (f (p .state)) (countsOf p)) x) (leaving (λ p. progress (g (p .state)) (countsOf p)) y)
+  follows-leaving f g refusals r = refusals
+  follows-leaving {n} {n′} f g (moves {hs} {s} {m} {m′} d u u′ k) r =
+      subst (λ (t : State). Follows E j v n n′ (done (made (map (movedBy v) hs) t m)) (done (made hs (g s) m′))) (sym (r s)) (moves d u u′ k)
+  follows-leaving f g (stops d u′ k) r = stops d u′ k
+
+  -- a block begins, if there is room: one more is counted
+  pub follows-counted :
+      {n n′ : Counts} {x y : Out (Made Progress)} (number line : ℕ) → Follows E j v (anotherBlock n) (anotherBlock n′) x y
+      → Follows E j v n n′ (_>>=_ (need (room (j .blocks) (n .blocks)) number line) (λ _. x)) y
+  follows-counted {n} {n′} number line r = go (room (j .blocks) (n .blocks)) refl r
+    where
+      go :
+          (t : Bool) → room (j .blocks) (n .blocks) ≡ t → {x y : Out (Made Progress)} → Follows E j v (anotherBlock n) (anotherBlock n′) x y
+          → Follows E j v n n′ (_>>=_ (need t number line) (λ _. x)) y
+      go true e refusals = refusals
+      go true e (moves d u u′ f) =
+          moves (oneBlock ⊞ d) (up-joined (up-block n) u) (up-joined (up-block n′) u′) (fit-joined oneBlock d (up-block n) (fit-block e) f)
+      go true e (stops d u′ f) = stops (oneBlock ⊞ d) (up-joined (up-block n′) u′) (λ i a. f i (fit-back oneBlock d (up-block n) a))
+      go false e refusals = refusals
+      go false e (moves d u u′ f) = stops (oneBlock ⊞ d) (up-joined (up-block n′) u′) (λ i a. true≢false (sym (block-fits d a) ∙ e))
+      go false e (stops d u′ f) = stops (oneBlock ⊞ d) (up-joined (up-block n′) u′) (λ i a. true≢false (sym (block-fits d a) ∙ e))
+
+  -- a hit, if there is room: one more is counted
+  pub follows-hit :
+      (number line : ℕ) (hit : Hit) (s : State) (n n′ : Counts)
+      → Follows E j v n n′
+      (_>>=_ (need (room (j .places) (n .hits)) number line) (λ _. done (made (movedBy v hit ∷ []) (movedState v s) (anotherHit n))))
+      (done (made (hit ∷ []) s (anotherHit n′)))
+  follows-hit number line hit s n n′ = go (room (j .places) (n .hits)) refl
+    where
+      go :
+          (t : Bool) → room (j .places) (n .hits) ≡ t
+          → Follows E j v n n′
+          (_>>=_ (need t number line) (λ _. done (made (movedBy v hit ∷ []) (movedState v s) (anotherHit n))))
+          (done (made (hit ∷ []) s (anotherHit n′)))
+      go true e = moves {hs = hit ∷ []} {s = s} {m = anotherHit n} {m′ = anotherHit n′} oneHit (up-hit n) (up-hit n′) (fit-hit e)
+      go false e = stops {hs = hit ∷ []} {s = s} {m′ = anotherHit n′} oneHit (up-hit n′) (λ i a. true≢false (sym (hit-fits a) ∙ e))
+
+-- ---- What it says where one of the two is accepted
+
+-- both are: hits moved, and counts up by as many, which fit
+pub record Together (j : Judging) (v : Point) (n n′ : Counts) (m m′ : Made Progress) (d : Counts) : Type 0 where
+  pub moved : m .hits ≡ map (movedBy v) (m′ .hits)
+  pub up : Up n (countsOf (m .after)) d
+  pub up′ : Up n′ (countsOf (m′ .after)) d
+  pub fit : Fit j n d
+
+-- y, with what is said of both
+pub record Followed (j : Judging) (v : Point) (n n′ : Counts) (m : Made Progress) (y : Out (Made Progress)) : Type 0 where
+  pub other : Made Progress
+  pub by : Counts
+  pub other-is : y ≡ done other
+  pub together : Together j v n n′ m other by
+
+module _ {E : Type 0} {j : Judging} {v : Point} {n n′ : Counts} where
+  pub follows-accepted : (x y : Out (Made Progress)) (m : Made Progress) → x ≡ done m → Follows E j v n n′ x y → Followed j v n n′ m y
+  follows-accepted x y m e r = go m y (subst (λ (x : Out (Made Progress)). Follows E j v n n′ x y) e r)
+    where
+      go : (m : Made Progress) (y : Out (Made Progress)) → Follows E j v n n′ (done m) y → Followed j v n n′ m y
+      go m y (moves {hs} {s} {m′} d u u′ f) = record { other = made hs s m′; by = d; other-is = refl; together = record { moved = refl; up = u; up′ = u′; fit = f } }
+
+  -- where E holds, what fits is accepted
+  pub follows-fitting :
+      (x y : Out (Made Progress)) (m′ : Made Progress) → y ≡ done m′ → Follows E j v n n′ x y → E
+      → ((d : Counts) → Up n′ (countsOf (m′ .after)) d → Fit j n d) → (m : Made Progress) × (x ≡ done m)
+  follows-fitting x y m′ e r i fit = go x m′ (subst (λ (y : Out (Made Progress)). Follows E j v n n′ x y) e r) fit
+    where
+      go :
+          (x : Out (Made Progress)) (m′ : Made Progress) → Follows E j v n n′ x (done m′) → ((d : Counts) → Up n′ (countsOf (m′ .after)) d → Fit j n d)
+          → (m : Made Progress) × (x ≡ done m)
+      go x m′ (moves {hs} {s} {m} d u u′ f) fit = (made (map (movedBy v) hs) (movedState v s) m, refl)
+      go x m′ (stops d u′ f) fit = absurd (f i (fit d u′))

@@ -1,0 +1,56 @@
+ghost use Rattle.aries.specs.CopyRuns.{BothOrNeither, EqualExactlyWhen, LayoutSentence, ReferenceMoves};
+ghost use Rattle.aries.specs.CopyBlocks.{CopyBlocksRun};
+ghost use Rattle.aries.specs.Ordinary.{FreshOrdinary, LineKeepsOrdinary, LinesKeepOrdinary, MovingKeepsOrdinary};
+ghost use Rattle.aries.specs.Plates.{PlatesHold};
+
+// What is proved of the definitions alone. Each function does nothing; its contract is the theorem.
+
+// Demand 3: by G75 and by G76, all else alike, both runs are accepted or both are refused.
+pub fn both_or_neither()
+    ensures { λ _. ⌜ BothOrNeither ⌝ }
+{}
+
+// Demand 3: their hits are equal exactly for a single row or column, without pitches, or without a hit.
+pub fn equal_exactly_when()
+    ensures { λ _. ⌜ EqualExactlyWhen ⌝ }
+{}
+
+// Demand 3: the hits of every accepted run are the part's own hits, moved to each place of the layout once, in order.
+pub fn layout_sentence()
+    ensures { λ _. ⌜ LayoutSentence ⌝ }
+{}
+
+// Demand 3: moving the reference point by any vector moves every hit by it.
+pub fn reference_moves()
+    ensures { λ _. ⌜ ReferenceMoves ⌝ }
+{}
+
+// A G75 or G76 block of a program is a run that the four theorems above speak of.
+pub fn copy_blocks_run()
+    ensures { λ _. ⌜ CopyBlocksRun ⌝ }
+{}
+
+// The origin of a setup is reference plus offset at the start,
+pub fn fresh_ordinary()
+    ensures { λ _. ⌜ FreshOrdinary ⌝ }
+{}
+
+// every line keeps it so,
+pub fn line_keeps_ordinary()
+    ensures { λ _. ⌜ LineKeepsOrdinary ⌝ }
+{}
+
+// lines in turn do,
+pub fn lines_keep_ordinary()
+    ensures { λ _. ⌜ LinesKeepOrdinary ⌝ }
+{}
+
+// and so does moving the reference point.
+pub fn moving_keeps_ordinary()
+    ensures { λ _. ⌜ MovingKeepsOrdinary ⌝ }
+{}
+
+// The plates of document 01, as rows of one list.
+pub fn plates_hold()
+    ensures { λ _. ⌜ PlatesHold ⌝ }
+{}

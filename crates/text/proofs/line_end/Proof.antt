@@ -1,0 +1,54 @@
+-- The invariant: the line has the same end from here as from the start. Assumes nothing.
+use mathlib.Core.Path.{_≡_}
+use Prim.Native.Nat.{_+_, _-_, _≤_}
+use native.Mathlib.Omega.{arith}
+use lib.ListN.{length, drop}
+use Rattle.text.specs.Lines.{lineLength}
+use Rattle.text.proofs.Lines.{line-ends, line-goes-on, line-past}
+use Rattle.text.proofs.line_end.Statement.{statement}
+use Rattle.text.proofs.line_end.Tie as tie
+
+abbrev Inv-loop : tie.InvT-loop
+Inv-loop text from i₀ i = (i ≤ length text) × (i + lineLength (drop i text) ≡ from + lineLength (drop from text))
+
+abbrev μ-loop : tie.MeasureT-loop
+μ-loop text from i₀ i = length text - i
+
+loop-holds : tie.Need-loop-holds Inv-loop μ-loop
+loop-holds c = omega arith
+
+shared-slice-read-if1 : tie.Need-shared-slice-read-if1 Inv-loop μ-loop
+shared-slice-read-if1 c = omega arith
+
+returns : tie.Need-returns Inv-loop μ-loop
+returns c =
+    let t = c .before .before .before .before .args .text .now in
+    omega (arith, line-ends t (c .before .before .before .loop .i) (c .before .before .loop-test .taken) (c .if1 .taken))
+
+add-i : tie.Need-add-i Inv-loop μ-loop
+add-i c = omega arith
+
+loop-less : tie.Need-loop-less Inv-loop μ-loop
+loop-less c = omega arith
+
+loop-again : tie.Need-loop-again Inv-loop μ-loop
+loop-again c =
+    let t = c .before .before .before .before .args .text .now in
+    omega (arith, line-goes-on t (c .before .before .before .loop .i) (c .before .before .loop-test .taken) (c .if1 .left))
+
+returns-2 : tie.Need-returns-2 Inv-loop μ-loop
+returns-2 c = omega (arith, line-past (c .before .before .args .text .now) (c .before .loop .i) (c .loop-test .left))
+
+pub line-end-spec : {M : Type 1} → statement M
+line-end-spec =
+    tie.close
+    (tie.spec
+    Inv-loop
+    μ-loop
+    loop-holds
+    shared-slice-read-if1
+    returns
+    add-i
+    loop-less
+    loop-again
+    returns-2)

@@ -1,0 +1,20 @@
+-- What cleaning a text answers, and what it leaves in the buffer.
+use mathlib.Core.Path.{_≡_}
+use mathlib.Core.List.{List}
+use mathlib.Core.Option.{Option, none, some}
+use Prim.Native.Nat.{ℕ}
+use lib.ListN.{length, take}
+use Rattle.aries.specs.Text.{strayLine, withoutSpaces}
+use Rattle.text.specs.declared.Cleaned.{Cleaned}
+use Rattle.text.specs.declared.Cleaned.the-variants.{Stray, Dense}
+
+-- the answer, from the line of the first stray byte, if there is one, and the bytes other than spaces
+abbrev pub cleaned : Option ℕ → List ℕ → Cleaned
+cleaned (some line) dense = Stray line
+cleaned none dense = Dense (length dense)
+
+-- a text, the answer, and the buffer at exit
+pub record Clean (text : List ℕ) (answer : Cleaned) (buffer : List ℕ) : Type 0 where
+  pub answered : answer ≡ cleaned (strayLine 1 text) (withoutSpaces text)
+  -- where no byte is stray, the buffer starts with the text without its spaces
+  pub copied : strayLine 1 text ≡ none → take (length (withoutSpaces text)) buffer ≡ withoutSpaces text
