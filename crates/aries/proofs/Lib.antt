@@ -18,9 +18,11 @@ pub mod ReferenceMoves
 pub mod Orders
 pub mod BothOrNeither
 -- What makes them theorems about programs.
+pub mod Kept
 pub mod Ordinary
 pub mod CopyBlocks
 -- Laws that the functions' proofs cite.
+pub mod Carried
 pub mod Judging
 pub mod Named
 pub mod Runs

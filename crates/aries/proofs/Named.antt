@@ -5,7 +5,6 @@ use lib.IntN.{pos}
 use Rattle.signed.specs.Signed.{eqZ}
 use Rattle.aries.specs.declared.point.Point.{Point}
 use Rattle.aries.specs.declared.machine.Machine.the-variants.{Aries222, Aries224}
-use Rattle.aries.specs.declared.machine.Named.{Named}
 use Rattle.aries.specs.declared.machine.Named.the-variants.{As, Neither}
 use Rattle.aries.specs.Test.{both, pick}
 use Rattle.aries.specs.Machine.{named}

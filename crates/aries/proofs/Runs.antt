@@ -10,9 +10,7 @@ use Rattle.aries.specs.declared.state.Status.{Status}
 use Rattle.aries.specs.declared.state.Status.the-variants.{Passed, Refused}
 use Rattle.aries.specs.Outcome.{Out, done, refused}
 use Rattle.aries.specs.Hits.{Hit, Made, still, adding, andThen, leaving}
-use Rattle.aries.specs.declared.state.Outcome.{Outcome}
-use Rattle.aries.specs.declared.state.Progress.{Progress}
-use Rattle.aries.specs.Runs.{statusOf, put, over, Ran, Carried}
+use Rattle.aries.specs.Runs.{statusOf, put, over, Ran}
 
 -- ---- The list
 
@@ -159,15 +157,13 @@ ran-leaving {A} {B} hitsA hitsB f same (done m) status left before after k h =
     (same (m .after) ∙ sym (ap hitsA (h .same-left m refl)) ∙ h .counted m refl)
     (λ r. let e : hitsB (f (m .after)) ≡ hitsA left = same (m .after) ∙ sym (ap hitsA (h .same-left m refl)) in let g : 4 * hitsA left ≤ length before = h .fitted m refl r in omega arith)))
 
--- ---- Outcomes of body blocks made outright
-
-pub carried-still : (r : Outcome) (g : Progress) (list : List ℤ) → r ≡ record { status = Passed; progress = g } → Carried r list list (g .hits) (still g)
-carried-still r g list e = rw e (ran-still (λ (g : Progress). g .hits) g list)
-
-pub carried-refused :
-    (r : Outcome) (g : Progress) (before after : List ℤ) (k number line : ℕ)
-    → r ≡ record { status = Refused number line; progress = g } → Carried r before after k (refused number line)
-carried-refused r g before after k number line e = rw e (ran-refused (λ (g : Progress). g .hits) g before after k number line)
+-- nothing done and then the rest is the rest
+pub still-then : {A : Type 0} (a : A) (f : A → Out (Made A)) → andThen (still a) f ≡ f a
+still-then {A} a f = go (f a)
+  where
+    go : (out : Out (Made A)) → adding [] out ≡ out
+    go (done m) = refl
+    go (refused number line) = refl
 
 -- ---- Loops: whoever does what is left, from this list and count on, has done the whole
 

@@ -11,6 +11,7 @@ use Rattle.aries.specs.declared.answer.Answer.the-variants.{Hits, Refuse
 use Rattle.aries.specs.declared.block.Block.{Block}
 use Rattle.aries.specs.declared.block.Block.the-variants.{Machine, End, Read, Punch, Move, Origin, Offset, Place, Run, Recall, Nibble, Idle, Open, Close, Call, Copy}
 use Rattle.aries.specs.declared.block.Instruction.{Instruction}
+use Rattle.aries.specs.declared.block.Measure.{Measure}
 use Rattle.aries.specs.declared.setup.Sheet.the-variants.{LaidOut}
 use Rattle.aries.specs.declared.setup.Setup.{Setup}
 use Rattle.aries.specs.declared.setup.Stage.{Stage}
@@ -18,12 +19,13 @@ use Rattle.aries.specs.declared.setup.Stage.the-variants.{Fresh, Running
 use Rattle.aries.specs.declared.setup.Program.{Program}
 use Rattle.aries.specs.declared.state.Progress.{Progress}
 use Rattle.aries.specs.Outcome.{Out, done, refused, _>>=_, need}
-use Rattle.aries.specs.Test.{either, within}
+use Rattle.aries.specs.Test.{either, within, pick}
 use Rattle.aries.specs.Letters.{letterV}
 use Rattle.aries.specs.Text.{longest, strayLine, withoutSpaces, lines}
 use Rattle.aries.specs.Blocks.{decode}
 use Rattle.aries.specs.Hits.{Hit, cells, Made, still, andThen, leaving}
 use Rattle.aries.specs.Judging.{Judging, lent, room}
+use Rattle.aries.specs.Moves.{withState, measuring}
 use Rattle.aries.specs.Macros.{mostCalls, call, carry, begun}
 use Rattle.aries.specs.Layouts.{copyPart}
 use Rattle.aries.specs.Bodies.{startsWith}
@@ -98,14 +100,18 @@ isStoring Ended = false
 abbrev pub passOver : List ℕ → Program → Out (Made Program)
 passOver l p = elim (startsWith letterV l) [ true ↦ still (atStage Running p) | false ↦ still p ]
 
--- A block. A V line is not counted, so 3 does not judge it.
+-- a block begins; a V line is not counted
+abbrev pub begunOutside : List ℕ → Progress → Measure → Progress
+begunOutside l g m = pick (startsWith letterV l) (withState g (measuring (g .state) m)) (begun g m)
+
+-- A block. 3 does not judge a V line.
 unfoldable pub runBlockOutside : Judging → List ℕ → ℕ → ℕ → List ℕ → List (List ℕ) → Program → Out (Made Program)
 unfolding decode carryOut
 runBlockOutside j text next line l ls p = do
   _ ← need (either (startsWith letterV l) (room (j .blocks) (p .progress .blocks))) 3 line
   i ← decode l line
   _ ← need (inPlace (p .stage) (i .block)) 7 line
-  carryOut j text next line ls (i .block) (withProgress p (begun (p .progress) (i .measure)))
+  carryOut j text next line ls (i .block) (withProgress p (begunOutside l (p .progress) (i .measure)))
 
 -- a blank line does nothing
 abbrev pub runLineOutside : Judging → List ℕ → ℕ → ℕ → List ℕ → List (List ℕ) → Program → Out (Made Program)
@@ -136,12 +142,12 @@ abbrev pub noStray : Option ℕ → Out (Unit {0})
 noStray none = done tt
 noStray (some line) = refused 2 line
 
--- the blocks of a text without spaces; it ends with G50
-unfoldable pub perform : Judging → List ℕ → Out (List Hit)
+-- the blocks of a text without spaces; it ends with G50, else it is refused in the last line
+unfoldable pub perform : Judging → List ℕ → ℕ → Out (List Hit)
 unfolding runFrom lines
-perform j text = do
+perform j text last = do
   m ← runFrom j text 0 1 (lines text) freshProgram
-  _ ← need (isEnded (m .after .stage)) 7 (length (lines text))
+  _ ← need (isEnded (m .after .stage)) 7 last
   done (m .hits)
 
 -- The hits of a text, or its refusal, with a lent list of so many numbers. 1 and 2 look at the whole text first.
@@ -150,7 +156,7 @@ unfolding perform strayLine withoutSpaces
 expand text numbers = do
   _ ← need (within 1 longest (length text)) 1 0
   _ ← noStray (strayLine 1 text)
-  perform (lent numbers) (withoutSpaces text)
+  perform (lent numbers) (withoutSpaces text) (length (lines text))
 
 -- ---- The answer
 

@@ -1,23 +1,13 @@
 -- Laws of cursors: places counted by quotient and rest.
 use mathlib.Core.Path.{_≡_, sym, ap, ap₂, _∙_}
 use Prim.Native.Nat.{ℕ, suc, _+_, _-_, _*_, _/_, _%_, _≤_, _<_}
-use native.Mathlib.Nat.{
-  div-add-mod',
-  div-eq-of-lt,
-  div-lt-iff-lt-mul,
-  mod-eq-of-lt,
-  mod-lt,
-  mul-add-div-right,
-  mul-add-mod-self-right,
-  zero-div,
-  zero-mod,
-}
+use native.Mathlib.Nat.{div-add-mod', div-eq-of-lt, div-le-self, div-lt-iff-lt-mul, mod-eq-of-lt, mod-lt, mul-add-div-right, mul-add-mod-self-right, zero-div, zero-mod}
 use native.Mathlib.Omega.{arith}
 use lib.Dec.{eqb}
-use Rattle.aries.specs.Lanes.{lane, along}
-use Rattle.aries.specs.Test.{pick}
 use Rattle.lanes.specs.declared.Cursor.{Cursor}
 use Rattle.lanes.specs.Cursors.{cursorAt, passed}
+use Rattle.aries.specs.Lanes.{lane, along}
+use Rattle.aries.specs.Test.{pick}
 
 abbrev cursor : ℕ → ℕ → Cursor
 cursor q r = record { lane = q; rest = r }
@@ -75,3 +65,7 @@ lane-within last lastLane m h =
     let p : 0 < suc last = omega arith in
     let q : m < suc lastLane * suc last = omega arith in
     omega (arith, div-lt-iff-lt-mul p .1 q)
+
+-- a lane's number is at most the place's
+pub lane-least : (last m : ℕ) → lane last m ≤ m
+lane-least last m = div-le-self m (suc last)

@@ -1,7 +1,7 @@
 -- A place by its lane and its rest, as the code keeps it, in place of a quotient for each place.
 use Prim.Native.Nat.{ℕ, suc, _+_, _*_, _%_}
-use Rattle.aries.specs.Lanes.{lane}
 use Rattle.lanes.specs.declared.Cursor.{Cursor}
+use Rattle.aries.specs.Lanes.{lane}
 
 -- the cursor of place m, where the last place of a lane is given
 abbrev pub cursorAt : ℕ → ℕ → Cursor

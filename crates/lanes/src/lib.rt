@@ -6,7 +6,7 @@ ghost use Rattle.lanes.specs.Cursors.{cursorAt, passed};
 
 // A place: its lane, and how many places of that lane come before it in the order of counting.
 pub struct Cursor {
-    pub lane: u16,
+    pub lane: u32,
     pub rest: u16,
 }
 
@@ -21,7 +21,7 @@ impl Cursor {
     // The place after this one, in its lane or at the start of the next. The last place of a lane is given.
     pub fn next(self, last: u16) -> Cursor
         requires { ⌜ self .rest ≤ last ⌝ }
-        requires { ⌜ lane last (suc (passed last self)) ≤ 65535 ⌝ }
+        requires { ⌜ lane last (suc (passed last self)) ≤ 4294967295 ⌝ }
         ensures { λ r. ⌜ r ≡ cursorAt last (suc (passed last self)) ⌝ }
     {
         let lane = self.lane;

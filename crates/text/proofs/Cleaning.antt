@@ -1,15 +1,16 @@
 -- Laws of the first stray byte and of the bytes other than spaces, at a place of a text; and of copying them.
 -- Assumes nothing.
-use mathlib.Core.Path.{_≡_, refl, sym, ap, _∙_}
+use mathlib.Core.Path.{_≡_, sym, ap, _∙_}
 use mathlib.Core.Bool.{Bool, true, false}
 use mathlib.Core.List.{List, [], _∷_, _++_, append-nil}
 use mathlib.Core.Option.{none, some}
 use Prim.Native.Nat.{ℕ, suc, _+_, _≤_, _<_}
+use native.Mathlib.Nat.{le-refl}
 use native.Mathlib.Omega.{arith}
 use native.Mathlib.Numerals.{add-one}
 use lib.Dec.{eqb}
 use lib.ListN.{length, take, drop, getD, set, drop-of-length-le}
-use lib.Seq.{drop-cons, take-suc-set, append-snoc, length-take-le}
+use lib.Seq.{drop-cons, take-suc-set, take-set-le, append-snoc, length-take-le}
 use borrow.Author.Tests.{eq-eqb, ne-eqb}
 use Rattle.aries.specs.Text.{space, lineFeed, isAllowed, strayLine, withoutSpaces}
 use Rattle.text.specs.Cleaning.{Clean}
@@ -18,6 +19,7 @@ use Rattle.text.specs.declared.Cleaned.the-variants.{Stray, Dense}
 -- ---- the first stray byte
 
 module _ (t : List ℕ) (line i : ℕ) where
+  -- a byte at i that is not allowed
   pub stray-here : i < length t → isAllowed (getD t i 0) ≡ false → strayLine line (drop i t) ≡ some line
   unfolding strayLine
   stray-here h e = rw (drop-cons t i 0 h) (rw (e, strayLine))
@@ -30,12 +32,14 @@ module _ (t : List ℕ) (line i : ℕ) where
   stray-feed h e p =
       rw (drop-cons t i 0 h, add-one i, add-one line) (rw (e, eq-eqb (getD t i 0) lineFeed p, strayLine))
 
+  -- another allowed byte: the same line goes on
   pub stray-other :
       i < length t → isAllowed (getD t i 0) ≡ true → (getD t i 0 ≡ lineFeed → ⊥)
       → strayLine line (drop i t) ≡ strayLine line (drop (i + 1) t)
   unfolding strayLine
   stray-other h e p = rw (drop-cons t i 0 h, add-one i) (rw (e, ne-eqb (getD t i 0) lineFeed p, strayLine))
 
+  -- no byte is left
   pub stray-past : length t ≤ i → strayLine line (drop i t) ≡ none
   unfolding strayLine
   stray-past h = rw (drop-of-length-le t h)
@@ -43,16 +47,19 @@ module _ (t : List ℕ) (line i : ℕ) where
 -- ---- the bytes other than spaces
 
 module _ (t : List ℕ) (i : ℕ) where
+  -- a space at i is left out
   pub dense-space : i < length t → getD t i 0 ≡ space → withoutSpaces (drop i t) ≡ withoutSpaces (drop (i + 1) t)
   unfolding withoutSpaces
   dense-space h p = rw (drop-cons t i 0 h, add-one i) (rw (eq-eqb (getD t i 0) space p, withoutSpaces))
 
+  -- another byte stays
   pub dense-other :
       i < length t → (getD t i 0 ≡ space → ⊥)
       → withoutSpaces (drop i t) ≡ getD t i 0 ∷ withoutSpaces (drop (i + 1) t)
   unfolding withoutSpaces
   dense-other h p = rw (drop-cons t i 0 h, add-one i) (rw (ne-eqb (getD t i 0) space p, withoutSpaces))
 
+  -- no byte is left
   pub dense-past : length t ≤ i → withoutSpaces (drop i t) ≡ []
   unfolding withoutSpaces
   dense-past h = rw (drop-of-length-le t h)
@@ -60,23 +67,25 @@ module _ (t : List ℕ) (i : ℕ) where
 -- ---- the copy in the buffer: the first n bytes are what was copied, and the bytes from place i on follow
 
 module _ (t buffer : List ℕ) (i n : ℕ) where
+  -- a byte other than a space is copied
   pub copied-other :
-      (after : List ℕ) (m : ℕ) → i < length t → n < length buffer → (getD t i 0 ≡ space → ⊥)
-      → after ≡ set buffer n (getD t i 0) → m ≡ n + 1
+      (m : ℕ) → i < length t → n < length buffer → (getD t i 0 ≡ space → ⊥) → m ≡ n + 1
       → take n buffer ++ withoutSpaces (drop i t) ≡ withoutSpaces t
-      → take m after ++ withoutSpaces (drop (i + 1) t) ≡ withoutSpaces t
-  copied-other after m h k p e f whole =
-      rw (e, f, add-one n, take-suc-set buffer n (getD t i 0) k)
+      → take m (set buffer n (getD t i 0)) ++ withoutSpaces (drop (i + 1) t) ≡ withoutSpaces t
+  copied-other m h k p f whole =
+      rw (f, add-one n, take-suc-set buffer n (getD t i 0) k)
       (append-snoc (take n buffer) (getD t i 0) (withoutSpaces (drop (i + 1) t))
       ∙ ap (λ (rest : List ℕ). take n buffer ++ rest) (sym (dense-other t i h p))
       ∙ whole)
 
+  -- a space is written past what was copied
   pub copied-space :
-      (after : List ℕ) (m : ℕ) → i < length t → getD t i 0 ≡ space → after ≡ buffer → m ≡ n
+      (m : ℕ) → i < length t → getD t i 0 ≡ space → m ≡ n
       → take n buffer ++ withoutSpaces (drop i t) ≡ withoutSpaces t
-      → take m after ++ withoutSpaces (drop (i + 1) t) ≡ withoutSpaces t
-  copied-space after m h p e f whole =
-      rw (e, f) (ap (λ (rest : List ℕ). take n buffer ++ rest) (sym (dense-space t i h p)) ∙ whole)
+      → take m (set buffer n (getD t i 0)) ++ withoutSpaces (drop (i + 1) t) ≡ withoutSpaces t
+  copied-space m h p f whole =
+      rw (f, take-set-le n buffer n (getD t i 0) (le-refl n))
+      (ap (λ (rest : List ℕ). take n buffer ++ rest) (sym (dense-space t i h p)) ∙ whole)
 
   -- at the end of the text all was copied
   pub copied-all :
@@ -88,10 +97,12 @@ module _ (t buffer : List ℕ) (i n : ℕ) where
 
 -- ---- the contract's two cases
 
+-- with a stray byte
 pub stray-cleaned : (t buffer : List ℕ) (line : ℕ) → strayLine 1 t ≡ some line → Clean t (Stray line) buffer
 stray-cleaned t buffer line e =
     record { answered = rw e; copied = λ f. let z : _≡_ {A = ℕ} 0 1 = cc in absurd (omega arith) }
 
+-- with none
 pub dense-cleaned :
     (t buffer : List ℕ) (n : ℕ) → strayLine 1 t ≡ none → n ≤ length buffer → take n buffer ≡ withoutSpaces t
     → Clean t (Dense n) buffer

@@ -4,12 +4,12 @@ use mathlib.Core.Path.{_≡_, refl, sym, ap, _∙_, subst}
 use mathlib.Core.Bool.{Bool, true, false}
 use mathlib.Core.List.{List, [], _∷_, _++_}
 use Prim.Native.Nat.{ℕ, zero, suc, _+_, _≤_, _<_}
-use native.Mathlib.Nat.{not-suc-le-zero, le-of-suc-le-suc}
+use native.Mathlib.Nat.{not-suc-le-zero}
 use native.Mathlib.Omega.{arith}
 use native.Mathlib.Numerals.{add-one}
 use lib.Dec.{eqb}
-use lib.ListN.{length, take, drop, getD, replicate, drop-of-length-le}
-use lib.Seq.{drop-cons, drop-drop}
+use lib.ListN.{length, take, drop, getD, replicate, drop-of-length-le, length-append, length-drop, length-replicate}
+use lib.Seq.{drop-cons, drop-drop, getD-drop}
 use borrow.Author.Tests.{eq-eqb, ne-eqb, eqb-true, eqb-false}
 use Rattle.aries.specs.Text.{lineFeed, lines, intoFirst}
 use Rattle.text.specs.Lines.{lineLength, blanks}
@@ -30,7 +30,8 @@ module _ (t : List ℕ) (i : ℕ) where
   line-ends h e = rw (drop-cons t i 0 h) (length-feed (getD t i 0) (drop (suc i) t) (eq-eqb (getD t i 0) lineFeed e))
 
   -- another byte at i: the line there is one byte longer than from the next place
-  pub line-goes-on : i < length t → (getD t i 0 ≡ lineFeed → ⊥) → lineLength (drop i t) ≡ suc (lineLength (drop (i + 1) t))
+  pub line-goes-on :
+      i < length t → (getD t i 0 ≡ lineFeed → ⊥) → lineLength (drop i t) ≡ suc (lineLength (drop (i + 1) t))
   line-goes-on h f =
       rw (add-one i, drop-cons t i 0 h) (length-other (getD t i 0) (drop (suc i) t) (ne-eqb (getD t i 0) lineFeed f))
 
@@ -41,6 +42,7 @@ module _ (t : List ℕ) (i : ℕ) where
 
 -- ---- a line: its bytes and its end
 
+-- it lies within the text
 pub line-short : (t : List ℕ) → lineLength t ≤ length t
 unfolding lineLength
 line-short [] = omega arith
@@ -78,10 +80,12 @@ feed-after (b ∷ bs) h = go (eqb b lineFeed) refl (feed-after bs)
 
 -- ---- the lines of a text
 
+-- a line feed: an empty line, and the lines after it
 lines-feed : (b : ℕ) (bs : List ℕ) → eqb b lineFeed ≡ true → lines (b ∷ bs) ≡ [] ∷ lines bs
 unfolding lines
 lines-feed b bs e = rw (e, lines)
 
+-- another byte belongs to the first line
 lines-other : (b : ℕ) (bs : List ℕ) → eqb b lineFeed ≡ false → lines (b ∷ bs) ≡ intoFirst b (lines bs)
 unfolding lines
 lines-other b bs e = rw (e, lines)
@@ -128,10 +132,12 @@ module _ (t : List ℕ) (i : ℕ) where
 
   -- ---- how many lines there are
 
+  -- the line at i is one of them
   pub count-at :
       i < length t → length (lines (drop i t)) ≡ suc (length (lines (drop (i + lineLength (drop i t) + 1) t)))
   count-at h = ap length (lines-at h)
 
+  -- from the end on there is none
   pub count-past : length t ≤ i → length (lines (drop i t)) ≡ 0
   count-past h = ap length (lines-past h)
 
@@ -160,10 +166,12 @@ unfolding blanks
 blanks-other b bs e = rw (e, blanks)
 
 module _ (t : List ℕ) (i : ℕ) where
+  -- a line feed at i: one empty line more
   pub blanks-go-on : i < length t → getD t i 0 ≡ lineFeed → blanks (drop i t) ≡ suc (blanks (drop (i + 1) t))
   blanks-go-on h e =
       rw (add-one i, drop-cons t i 0 h) (blanks-feed (getD t i 0) (drop (suc i) t) (eq-eqb (getD t i 0) lineFeed e))
 
+  -- another byte at i, or none: no empty line there
   pub blanks-end : i < length t → (getD t i 0 ≡ lineFeed → ⊥) → blanks (drop i t) ≡ 0
   blanks-end h f = rw (drop-cons t i 0 h) (blanks-other (getD t i 0) (drop (suc i) t) (ne-eqb (getD t i 0) lineFeed f))
 
@@ -183,6 +191,14 @@ lines-blanks (b ∷ bs) = go (eqb b lineFeed) refl (lines-blanks bs)
     go true e rest = rw (lines-feed b bs e, blanks-feed b bs e) (ap (λ (ls : List (List ℕ)). [] ∷ ls) rest)
     go false e rest = rw (blanks-other b bs e)
 
+-- and so they are counted
+pub count-blanks : (t : List ℕ) → length (lines t) ≡ blanks t + length (lines (drop (blanks t) t))
+count-blanks t =
+    let ls : List (List ℕ) = lines (drop (blanks t) t) in
+    ap length (lines-blanks t)
+    ∙ length-append (replicate (blanks t) []) ls
+    ∙ ap (λ (n : ℕ). n + length ls) (length-replicate (blanks t) [])
+
 -- the first line after the empty ones, if there is one, is not empty
 pub blanks-stop : (t : List ℕ) → blanks t < length t → getD t (blanks t) 0 ≡ lineFeed → ⊥
 unfolding blanks
@@ -194,3 +210,10 @@ blanks-stop (b ∷ bs) h p = go (eqb b lineFeed) refl (blanks-stop bs) h p
         → blanks (b ∷ bs) < suc (length bs) → getD (b ∷ bs) (blanks (b ∷ bs)) 0 ≡ lineFeed → ⊥
     go true e rest h p = rest (omega (arith, blanks-feed b bs e)) (rw (blanks-feed b bs e) at p)
     go false e rest h p = eqb-false b lineFeed e (rw (blanks-other b bs e) at p)
+
+-- where the next block starts there is no line feed
+pub next-stop :
+    (t : List ℕ) (from next : ℕ) → next ≡ from + blanks (drop from t) → next < length t → getD t next 0 ≡ lineFeed → ⊥
+next-stop t from next e h f =
+    let k : blanks (drop from t) < length (drop from t) = simp length-drop (omega arith) in
+    blanks-stop (drop from t) k (getD-drop from t (blanks (drop from t)) 0 ∙ ap (λ (n : ℕ). getD t n 0) (sym e) ∙ f)

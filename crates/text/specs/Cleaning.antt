@@ -13,7 +13,8 @@ abbrev pub cleaned : Option ℕ → List ℕ → Cleaned
 cleaned (some line) dense = Stray line
 cleaned none dense = Dense (length dense)
 
--- a text, the answer, and the buffer at exit
+-- A text, the answer, and the buffer at exit. What the buffer holds past the copy is free, and all of it where a byte
+-- is stray.
 pub record Clean (text : List ℕ) (answer : Cleaned) (buffer : List ℕ) : Type 0 where
   pub answered : answer ≡ cleaned (strayLine 1 text) (withoutSpaces text)
   -- where no byte is stray, the buffer starts with the text without its spaces

@@ -2,12 +2,15 @@
 ghost use mathlib.Core.Path.{_≡_};
 ghost use Prim.Native.Nat.{_+_, _≤_};
 ghost use lib.ListN.{length, drop};
-ghost use Rattle.aries.specs.Text.{isAllowed};
+ghost use Rattle.aries.specs.Text.{isAllowed, lines};
 ghost use Rattle.text.specs.Cleaning.{Clean};
 ghost use Rattle.text.specs.Lines.{lineLength, blanks};
 
-// One bit for each byte: whether it is a capital, a digit, a space, a line feed, plus, minus or point.
-const ALLOWED: [u64; 4] = [0x3FF680100000400, 0x7FFFFFE, 0x0, 0x0];
+// One bit for each byte, below 64 and from 64 on: whether it is a capital, a digit, a space, a line feed, plus, minus
+// or point.
+const ALLOWED_LOW: u64 = 0x3FF680100000400;
+
+const ALLOWED_HIGH: u64 = 0x7FFFFFE;
 
 const LINE_FEED: u8 = 10;
 
@@ -32,8 +35,9 @@ pub fn clean(text: &[u8], buffer: &mut [u8]) -> Cleaned
         if !is_allowed(b) {
             return Cleaned::Stray(line);
         }
+        // the place past what was copied may be written in vain
+        buffer[n] = b;
         if b != SPACE {
-            buffer[n] = b;
             n += 1;
         }
         if b == LINE_FEED {
@@ -48,7 +52,11 @@ pub fn clean(text: &[u8], buffer: &mut [u8]) -> Cleaned
 fn is_allowed(b: u8) -> bool
     ensures { λ r. ⌜ r ≡ isAllowed b ⌝ }
 {
-    (ALLOWED[(b / 64) as usize] >> (b % 64)) % 2 == 1
+    if 127 < b {
+        return false;
+    }
+    let bits = if b < 64 { ALLOWED_LOW } else { ALLOWED_HIGH };
+    (bits >> (b % 64)) % 2 == 1
 }
 
 // Where the line ends that starts at a place: at its line feed, or at the end of the text.
@@ -79,4 +87,17 @@ pub fn next_block(text: &[u8], from: usize) -> usize
         i += 1;
     }
     i
+}
+
+// How many lines a text has.
+pub fn count_lines(text: &[u8]) -> u64
+    ensures { λ r. ⌜ r ≡ length (lines (now (text .entry))) ⌝ }
+{
+    let mut count: u64 = 0;
+    let mut at = 0;
+    while at < text.len() {
+        at = line_end(text, at) + 1;
+        count += 1;
+    }
+    count
 }

@@ -79,18 +79,21 @@ loop-again c =
     let w = c .before .before .before .before .before .before .loop in
     let t = c .before .before .before .before .before .before .before .before .before .args .text .now in
     let h : w .i < length t = search needs in
-    let allowed : isAllowed (getD t (w .i) 0) ≡ true = sym (c .before .before .before .is-allowed .ensures) ∙ not-false (c .before .before .before .is-allowed .result) (c .before .before .if1 .left) in (
+    let m = c .before .if2 .n in
+    let test = c .before .before .before .is-allowed in
+    let allowed : isAllowed (getD t (w .i) 0) ≡ true =
+    sym (test .ensures) ∙ not-false (test .result) (c .before .before .if1 .left) in (
       omega arith,
       ⊎-elim (λ v. omega arith) (λ v. omega arith) (c .before .if2 .came),
       ⊎-elim (λ v. omega arith) (λ v. omega arith) (c .if3 .came),
-      ⊎-elim (λ v. rw (v .1) (simp length-set (w .inv .3))) (λ v. rw (v .1) (w .inv .3)) (c .before .if2 .came),
+      simp length-set (w .inv .3),
       ⊎-elim
           (λ v. rw (v .1) (sym (stray-feed t (w .line) (w .i) h allowed (v .0 .taken)) ∙ w .inv .4))
           (λ v. rw (v .1) (sym (stray-other t (w .line) (w .i) h allowed (v .0 .left)) ∙ w .inv .4))
           (c .if3 .came),
       ⊎-elim
-          (λ v. copied-other t (w .buffer) (w .i) (w .n) (c .before .if2 .buffer) (c .before .if2 .n) h (omega arith) (v .0 .taken) (v .1) (v .2) (w .inv .5))
-          (λ v. copied-space t (w .buffer) (w .i) (w .n) (c .before .if2 .buffer) (c .before .if2 .n) h (v .0 .left) (v .1) (v .2) (w .inv .5))
+          (λ v. copied-other t (w .buffer) (w .i) (w .n) m h (omega arith) (v .0 .taken) (v .1) (w .inv .5))
+          (λ v. copied-space t (w .buffer) (w .i) (w .n) m h (v .0 .left) (v .1) (w .inv .5))
           (c .before .if2 .came),
     )
 

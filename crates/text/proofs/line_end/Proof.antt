@@ -23,7 +23,9 @@ shared-slice-read-if1 c = omega arith
 returns : tie.Need-returns Inv-loop μ-loop
 returns c =
     let t = c .before .before .before .before .args .text .now in
-    omega (arith, line-ends t (c .before .before .before .loop .i) (c .before .before .loop-test .taken) (c .if1 .taken))
+    let i = c .before .before .before .loop .i in
+    let h = c .before .before .loop-test .taken in
+    omega (arith, line-ends t i h (c .if1 .taken))
 
 add-i : tie.Need-add-i Inv-loop μ-loop
 add-i c = omega arith
@@ -34,7 +36,9 @@ loop-less c = omega arith
 loop-again : tie.Need-loop-again Inv-loop μ-loop
 loop-again c =
     let t = c .before .before .before .before .args .text .now in
-    omega (arith, line-goes-on t (c .before .before .before .loop .i) (c .before .before .loop-test .taken) (c .if1 .left))
+    let i = c .before .before .before .loop .i in
+    let h = c .before .before .loop-test .taken in
+    omega (arith, line-goes-on t i h (c .if1 .left))
 
 returns-2 : tie.Need-returns-2 Inv-loop μ-loop
 returns-2 c = omega (arith, line-past (c .before .before .args .text .now) (c .before .loop .i) (c .loop-test .left))

@@ -1,7 +1,7 @@
 -- An even lane goes forward, an odd one back: the rest is that of the cursor's place. Assumes nothing.
+use Prim.Native.Nat.{_%_}
 use borrow.Author.Needs.{needs}
 use borrow.Author.Tests.{eq-eqb, ne-eqb}
-use Prim.Native.Nat.{_%_}
 use Rattle.lanes.proofs.Cursors.{along-passed}
 use Rattle.lanes.proofs.Cursor.along.Statement.{statement}
 use Rattle.lanes.proofs.Cursor.along.Tie as tie

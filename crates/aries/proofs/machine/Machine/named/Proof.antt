@@ -1,6 +1,5 @@
 -- Y is tested first, then X against each machine's. Assumes nothing.
 use mathlib.Core.Path.{_≡_, sym, _∙_}
-use mathlib.Core.Bool.{true, false}
 use lib.IntN.{pos}
 use borrow.Author.Needs.{needs}
 use mir.Syntax.{w32}

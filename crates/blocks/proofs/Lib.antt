@@ -1,0 +1,7 @@
+pub mod Arms
+pub mod Bounds
+pub mod Clean
+pub mod Decode
+pub mod Listing
+pub mod Tests
+pub mod Decoded

@@ -1,0 +1,17 @@
+-- Words as a text has them: what is not written is zero, and no number is larger than six digits can say.
+use mathlib.Core.Path.{_≡_}
+use mathlib.Core.Bool.{false}
+use Prim.Native.Nat.{ℕ, _≤_}
+use lib.IntN.{pos, natAbs}
+use Rattle.aries.specs.declared.words.Word.{Word}
+use Rattle.aries.specs.declared.words.Words.{Words}
+use Rattle.aries.specs.Words.{at}
+
+-- a word that is not written has the value 0, and none is larger in size than 999,999
+pub record CleanWord (v : Word) : Type 0 where
+  pub absent : v .written ≡ false → v .value ≡ pos 0
+  pub small : natAbs (v .value) ≤ 999999
+
+-- such are all words of a block
+pub record Clean (w : Words) : Type 0 where
+  pub each : (letter : ℕ) → CleanWord (at w letter)

@@ -1,0 +1,64 @@
+ghost use mathlib.Core.Path.{_≡_};
+ghost use Rattle.aries.specs.Blocks.{lookup, codes, plainKind, kindOf};
+ghost use Rattle.aries.specs.declared.block.Kind.the-variants.{Unknown};
+use crate::lookup::has;
+use aries::block::Kind;
+use aries::words::Words;
+
+// The kind of a block with a code.
+fn coded_kind(code: u32) -> Kind
+    ensures { λ r. ⌜ r ≡ lookup codes code Unknown ⌝ }
+{
+    match code {
+        26 => Kind::G26,
+        28 => Kind::G28,
+        29 => Kind::G29,
+        36 => Kind::G36,
+        37 => Kind::G37,
+        50 => Kind::G50,
+        70 => Kind::G70,
+        72 => Kind::G72,
+        75 => Kind::G75,
+        76 => Kind::G76,
+        92 => Kind::G92,
+        93 => Kind::G93,
+        98 => Kind::G98,
+        _ => Kind::Unknown,
+    }
+}
+
+// The kind of a block without a code.
+fn plain_kind(w: Words) -> Kind
+    ensures { λ r. ⌜ r ≡ plainKind w ⌝ }
+{
+    if has(w, b'M') {
+        return Kind::LetterM;
+    }
+    if has(w, b'B') {
+        return Kind::LetterB;
+    }
+    if has(w, b'U') {
+        return Kind::LetterU;
+    }
+    if has(w, b'V') {
+        return Kind::LetterV;
+    }
+    if has(w, b'W') {
+        return Kind::LetterW;
+    }
+    if has(w, b'X') | has(w, b'Y') {
+        return Kind::Position;
+    }
+    Kind::Lone
+}
+
+// The kind of a block: by its code, or else by its letters.
+pub fn kind_of(w: Words) -> Kind
+    ensures { λ r. ⌜ r ≡ kindOf w ⌝ }
+{
+    if w.coded {
+        coded_kind(w.code)
+    } else {
+        plain_kind(w)
+    }
+}

@@ -1,0 +1,95 @@
+ghost use mathlib.Core.Path.{_≡_};
+ghost use Rattle.aries.specs.declared.block.Kind.the-variants.{G98};
+ghost use Rattle.aries.specs.Blocks.{aboveZero, notNegative, whole, signedWhole, numberFits, rangesOf, commonRanges, isRanged};
+ghost use Rattle.aries.specs.Test.{every, within};
+ghost use Rattle.blocks.specs.Decoding.{passes};
+use crate::lookup::is_negative;
+use crate::lookup::is_plain;
+use crate::lookup::is_positive;
+use crate::lookup::size_of;
+use crate::lookup::word_at;
+use aries::block::Kind;
+use aries::words::Word;
+use aries::words::Words;
+
+// Whether least ≤ n ≤ most.
+fn within(least: u32, most: u32, n: u32) -> bool
+    ensures { λ r. ⌜ r ≡ within least most n ⌝ }
+{
+    (least <= n) & (n <= most)
+}
+
+// A length above zero; an absent word passes, here and below.
+fn above_zero(v: Word) -> bool
+    ensures { λ r. ⌜ r ≡ passes aboveZero v ⌝ }
+{
+    !v.written | is_positive(v)
+}
+
+// A length that is not negative.
+fn not_negative(v: Word) -> bool
+    ensures { λ r. ⌜ r ≡ passes notNegative v ⌝ }
+{
+    !v.written | !is_negative(v)
+}
+
+// A whole number between bounds, without a sign or a point.
+fn whole(v: Word, least: u32, most: u32) -> bool
+    ensures { λ r. ⌜ r ≡ passes (whole least most) v ⌝ }
+{
+    !v.written | (is_plain(v) & within(least, most, size_of(v)))
+}
+
+// A whole number of a size between bounds, which may have a sign.
+fn signed_whole(v: Word, least: u32, most: u32) -> bool
+    ensures { λ r. ⌜ r ≡ passes (signedWhole least most) v ⌝ }
+{
+    !v.written | (!v.pointed & within(least, most, size_of(v)))
+}
+
+// N, T and A, wherever they stand.
+fn common_fit(w: Words) -> bool
+    ensures { λ r. ⌜ r ≡ every (numberFits w) commonRanges ⌝ }
+{
+    whole(word_at(w, b'N'), 0, 9999)
+        & whole(word_at(w, b'T'), 1, 99)
+        & whole(word_at(w, b'A'), 1, 5)
+}
+
+// The numbers of G98: lengths that are not negative, and steps of at most 99.
+fn layout_fits(w: Words) -> bool
+    ensures { λ r. ⌜ r ≡ every (numberFits w) (rangesOf G98) ⌝ }
+{
+    let lengths = not_negative(word_at(w, b'X'))
+        & not_negative(word_at(w, b'Y'))
+        & not_negative(word_at(w, b'I'))
+        & not_negative(word_at(w, b'J'))
+        & not_negative(word_at(w, b'D'));
+    lengths & whole(word_at(w, b'P'), 0, 99) & whole(word_at(w, b'K'), 0, 99)
+}
+
+// The letters of a kind whose numbers are limited.
+fn ranges_fit(w: Words, kind: Kind) -> bool
+    ensures { λ r. ⌜ r ≡ every (numberFits w) (rangesOf kind) ⌝ }
+{
+    match kind {
+        Kind::G26 => above_zero(word_at(w, b'I')) & signed_whole(word_at(w, b'K'), 1, 999),
+        Kind::G28 => whole(word_at(w, b'K'), 1, 999),
+        Kind::G29 => above_zero(word_at(w, b'I')) & whole(word_at(w, b'K'), 1, 999),
+        Kind::G36 | Kind::G37 => whole(word_at(w, b'P'), 0, 999) & whole(word_at(w, b'K'), 0, 999),
+        Kind::G75 | Kind::G76 => whole(word_at(w, b'W'), 1, 89) & whole(word_at(w, b'Q'), 1, 4),
+        Kind::G98 => layout_fits(w),
+        Kind::LetterB => whole(word_at(w, b'B'), 1, 5),
+        Kind::LetterU => whole(word_at(w, b'U'), 1, 89),
+        Kind::LetterV => whole(word_at(w, b'V'), 1, 89),
+        Kind::LetterW => whole(word_at(w, b'W'), 1, 89),
+        _ => true,
+    }
+}
+
+// Whether the numbers of a block of a kind are of the right kind and in their ranges.
+pub fn is_ranged(w: Words, kind: Kind) -> bool
+    ensures { λ r. ⌜ r ≡ isRanged w kind ⌝ }
+{
+    ranges_fit(w, kind) & common_fit(w)
+}

@@ -1,0 +1,45 @@
+-- Blocks by their tags: those that are out of place in a body, and those that call nothing.
+use mathlib.Core.Path.{_≡_, refl, subst}
+use mathlib.Core.List.{List, [], _∷_}
+use Prim.Native.Nat.{ℕ}
+use denote.Enum.Declared.{tagOf}
+use types.Run.{OneOf, miss}
+use Rattle.aries.proofs.block.Block.{the-type}
+use Rattle.aries.specs.declared.block.Block.{Block}
+use Rattle.aries.specs.declared.block.Block.the-variants.{Machine, End, Read, Punch, Move, Origin, Offset, Place, Run, Recall, Nibble, Idle, Open, Close, Call, Copy}
+use Rattle.aries.specs.declared.state.Frame.{Frame}
+use Rattle.aries.specs.declared.state.Progress.{Progress}
+use Rattle.aries.specs.Outcome.{Out, done, refused}
+use Rattle.aries.specs.Judging.{Judging}
+use Rattle.aries.specs.Macros.{carry}
+use Rattle.bodies.specs.Ordinary.{noCalls}
+
+-- G92, G50, G93, G98, U, V, W, and G75 or G76
+abbrev pub outOfPlace : List ℕ
+outOfPlace = 0 ∷ 1 ∷ 6 ∷ 7 ∷ 12 ∷ 13 ∷ 14 ∷ 15 ∷ []
+
+pub carry-out-of-place : (j : Judging) (f : Frame) (line : ℕ) (b : Block) (g : Progress) → OneOf outOfPlace (tagOf the-type b) → carry j noCalls f line b g ≡ refused 7 line
+unfolding carry
+carry-out-of-place j f line (Machine p) g h = refl
+carry-out-of-place j f line End g h = refl
+carry-out-of-place j f line Read g h = absurd (miss outOfPlace 2 tt h)
+carry-out-of-place j f line (Punch a t) g h = absurd (miss outOfPlace 3 tt h)
+carry-out-of-place j f line (Move a t) g h = absurd (miss outOfPlace 4 tt h)
+carry-out-of-place j f line (Origin a) g h = absurd (miss outOfPlace 5 tt h)
+carry-out-of-place j f line (Offset a) g h = refl
+carry-out-of-place j f line (Place l) g h = refl
+carry-out-of-place j f line (Run p t a) g h = absurd (miss outOfPlace 8 tt h)
+carry-out-of-place j f line (Recall n) g h = absurd (miss outOfPlace 9 tt h)
+carry-out-of-place j f line (Nibble b) g h = absurd (miss outOfPlace 10 tt h)
+carry-out-of-place j f line Idle g h = absurd (miss outOfPlace 11 tt h)
+carry-out-of-place j f line (Open n) g h = refl
+carry-out-of-place j f line (Close n) g h = refl
+carry-out-of-place j f line (Call n) g h = refl
+carry-out-of-place j f line (Copy k) g h = refl
+
+-- every block but W
+abbrev pub notCalls : List ℕ
+notCalls = 0 ∷ 1 ∷ 2 ∷ 3 ∷ 4 ∷ 5 ∷ 6 ∷ 7 ∷ 8 ∷ 9 ∷ 10 ∷ 11 ∷ 12 ∷ 13 ∷ 15 ∷ []
+
+pub not-call : (b : Block) → OneOf notCalls (tagOf the-type b) → (n : ℕ) → b ≡ Call n → ⊥
+not-call b h n e = miss notCalls 14 tt (subst (λ (x : Block). OneOf notCalls (tagOf the-type x)) e h)

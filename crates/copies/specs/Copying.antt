@@ -1,0 +1,35 @@
+-- A run over the places of a layout, lane by lane, by what carries the part out.
+use mathlib.Core.List.{List}
+use Prim.Native.Nat.{ℕ}
+use Rattle.aries.specs.declared.block.Copies.{Copies}
+use Rattle.aries.specs.declared.block.Layout.{Layout}
+use Rattle.aries.specs.declared.macros.Macros.{Macros}
+use Rattle.aries.specs.declared.setup.Setup.{Setup}
+use Rattle.aries.specs.declared.state.Progress.{Progress}
+use Rattle.aries.specs.Outcome.{Out}
+use Rattle.aries.specs.Test.{pick}
+use Rattle.aries.specs.Hits.{Made, still}
+use Rattle.aries.specs.Judging.{Judging}
+use Rattle.aries.specs.Macros.{runBody}
+use Rattle.aries.specs.Setup.{ordinaryFrame}
+use Rattle.aries.specs.Layouts.{Part, copyCount, copyPlace, copyAll}
+
+-- the last place of a lane: G75 goes along X, row by row, G76 along Y, column by column
+abbrev pub laneEnd : Layout → Copies → ℕ
+laneEnd l c = pick (c .vertical) (l .steps .y) (l .steps .x)
+
+-- the last lane
+abbrev pub lastLane : Layout → Copies → ℕ
+lastLane l c = pick (c .vertical) (l .steps .x) (l .steps .y)
+
+-- a body as the part that is copied, with one call open
+abbrev pub bodyPart : Judging → List ℕ → Macros → ℕ → List ℕ → Part
+bodyPart j text m first body f g = runBody j text m 3 f first body g
+
+-- a part without a block
+abbrev pub blankPart : Part
+blankPart f g = still g
+
+-- all copies of a part, from the state that is found
+abbrev pub allCopies : Judging → Part → Setup → ℕ → Layout → Copies → Progress → Out (Made Progress)
+allCopies j part s line l c g = copyAll j part (ordinaryFrame s) line (g .state) (copyPlace (s .origin) l c) (copyCount l) 0 g

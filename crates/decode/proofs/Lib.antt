@@ -1,0 +1,2 @@
+pub mod CleanWords
+pub mod Outcomes

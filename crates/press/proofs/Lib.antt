@@ -1,0 +1,4 @@
+pub mod Move
+pub mod Position
+pub mod Punch
+pub mod SetOrigin

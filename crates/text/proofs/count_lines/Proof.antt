@@ -1,0 +1,66 @@
+-- The invariant: the lines counted and those from here on are all.
+use mathlib.Core.Path.{_≡_, refl, ap}
+use Prim.Native.Nat.{ℕ, _+_, _-_, _<_, _≤_}
+use native.Mathlib.Omega.{arith}
+use lib.ListN.{length, drop}
+use borrow.Author.Needs.{needs}
+use Rattle.aries.specs.Text.{lines}
+use Rattle.text.proofs.Lines.{count-at, count-past, count-small}
+use Rattle.text.proofs.count_lines.Statement.{statement}
+use Rattle.text.proofs.count_lines.Tie as tie
+
+abbrev Inv-loop : tie.InvT-loop
+Inv-loop text count₀ at₀ count at = (at ≤ length text + 1) × (count + length (lines (drop at text)) ≡ length (lines text))
+
+abbrev μ-loop : tie.MeasureT-loop
+μ-loop text count₀ at₀ count at = length text + 1 - at
+
+loop-holds : tie.Need-loop-holds Inv-loop μ-loop
+loop-holds c = (omega arith, omega arith)
+
+line-end-requires : tie.Need-line-end-requires Inv-loop μ-loop
+line-end-requires c κs = search needs
+
+add-at : tie.Need-add-at Inv-loop μ-loop
+add-at c = search needs
+
+-- the count after this line, from the place past it
+counted :
+    (c : tie.After-line-end Inv-loop μ-loop)
+    → length (lines (drop (c .before .before .loop .at) (c .before .before .before .before .args .text .now)))
+    ≡ 1 + length (lines (drop (c .line-end .result + 1) (c .before .before .before .before .args .text .now)))
+counted c =
+    let t = c .before .before .before .before .args .text .now in
+    let h = count-at t (c .before .before .loop .at) (c .before .loop-test .taken) in
+    let e = ap (λ (n : ℕ). length (lines (drop (n + 1) t))) (c .line-end .ensures .0) in
+    omega arith
+
+add-count : tie.Need-add-count Inv-loop μ-loop
+add-count c =
+    let t = c .before .before .before .before .args .text .now in
+    omega (arith, counted c, count-small t, c .before .before .loop .inv .1, c .before .before .before .before .good .0)
+
+loop-less : tie.Need-loop-less Inv-loop μ-loop
+loop-less c = search needs
+
+loop-again : tie.Need-loop-again Inv-loop μ-loop
+loop-again c = (omega arith, omega (arith, counted c, c .before .before .loop .inv .1))
+
+returns : tie.Need-returns Inv-loop μ-loop
+returns c =
+    let t = c .before .before .before .args .text .now in
+    omega (arith, count-past t (c .before .loop .at) (c .loop-test .left), c .before .loop .inv .1)
+
+pub count-lines-spec : {M : Type 1} → statement M
+count-lines-spec =
+    tie.close
+    (tie.spec
+    Inv-loop
+    μ-loop
+    loop-holds
+    line-end-requires
+    add-at
+    add-count
+    loop-less
+    loop-again
+    returns)

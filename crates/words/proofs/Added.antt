@@ -1,0 +1,44 @@
+-- Laws of `added`: its four cases.
+-- Assumes nothing.
+use mathlib.Core.Path.{_≡_}
+use mathlib.Core.Bool.{Bool, true, false}
+use Prim.Native.Nat.{ℕ, _+_, _≤_}
+use native.Mathlib.Omega.{arith}
+use lib.Dec.{eqb}
+use borrow.Author.Tests.{eq-eqb, ne-eqb}
+use Rattle.aries.specs.declared.words.Word.{Word}
+use Rattle.aries.specs.declared.words.Words.{Words}
+use Rattle.aries.specs.Test.{pick}
+use Rattle.aries.specs.Letters.{letterG, letterN}
+use Rattle.aries.specs.Words.{isReadingCode, withReading, withCode, withNumber, withLetter, added}
+
+module _ (w : Words) (letter : ℕ) (v : Word) where
+  pub added-reading : letter ≡ letterG → isReadingCode v ≡ true → added w letter v ≡ withReading w v
+  unfolding added
+  added-reading g r = simp (eq-eqb letter letterG g, r)
+
+  pub added-code : letter ≡ letterG → isReadingCode v ≡ false → added w letter v ≡ withCode w v
+  unfolding added
+  added-code g r = simp (eq-eqb letter letterG g, r)
+
+  pub added-number : letter ≡ letterN → added w letter v ≡ withNumber w v
+  unfolding added
+  added-number n = simp n
+
+  pub added-letter : (letter ≡ letterG → ⊥) → (letter ≡ letterN → ⊥) → added w letter v ≡ withLetter w letter v
+  unfolding added
+  added-letter g n = simp (ne-eqb letter letterG g, ne-eqb letter letterN n)
+
+-- at most one word more is counted
+pub added-others : (w : Words) (letter : ℕ) (v : Word) → added w letter v .others ≤ w .others + 1
+unfolding added
+added-others w letter v = go (eqb letter letterG) (isReadingCode v) (eqb letter letterN)
+  where
+    go :
+        (g r n : Bool)
+        → pick g (pick r (withReading w v) (withCode w v)) (pick n (withNumber w v) (withLetter w letter v)) .others
+        ≤ w .others + 1
+    go true true n = omega arith
+    go true false n = omega arith
+    go false r true = omega arith
+    go false r false = omega arith

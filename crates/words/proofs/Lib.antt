@@ -1,0 +1,6 @@
+pub mod Tests
+pub mod Bytes
+pub mod Numerals
+pub mod Word
+pub mod Added
+pub mod Gathering

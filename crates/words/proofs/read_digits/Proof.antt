@@ -1,0 +1,129 @@
+-- The invariant: the value has as many digits as are counted, and the digits from here on, after those, are those from
+-- the start. Assumes nothing.
+use mathlib.Core.Path.{_≡_, sym, ap, _∙_}
+use mathlib.Core.Bool.{true, false}
+use Prim.Native.Nat.{ℕ, _+_, _-_, _^_, _≤_, _<_}
+use native.Mathlib.Nat.{sub-zero, add-zero}
+use native.Mathlib.Omega.{arith}
+use borrow.Author.Needs.{needs}
+use borrow.Author.Tests.{not-true, not-false}
+use lib.Dec.{lit<}
+use lib.ListN.{length, drop, getD}
+use Rattle.aries.specs.Text.{isDigit}
+use Rattle.aries.specs.Words.{digits}
+use Rattle.words.specs.Reading.{held}
+use Rattle.words.proofs.Bytes.{digit-low, digit-high, digit-inside}
+use Rattle.words.proofs.Numerals.{digits-full, digits-stop, digits-more, one-more, below-power}
+use Rattle.words.proofs.read_digits.Statement.{statement}
+use Rattle.words.proofs.read_digits.Tie as tie
+
+abbrev Inv-loop : tie.InvT-loop
+Inv-loop bytes from most value₀ count₀ value count =
+    (count ≤ most)
+    × (from + count ≤ length bytes)
+    × (value < 10 ^ count)
+    × (digits (most - count) value count (drop (from + count) bytes) ≡ digits most 0 0 (drop from bytes))
+
+abbrev μ-loop : tie.MeasureT-loop
+μ-loop bytes from most value₀ count₀ value count = most - count
+
+-- a digit stands at the place
+module _ (c : tie.Else1 Inv-loop μ-loop) where
+  abbrev place : ℕ
+  place = c .before .before .before .before .before .before .args .from + c .before .before .before .before .loop .count
+
+  digit : isDigit (getD (c .before .before .before .before .before .before .args .bytes .now) place 0) ≡ true
+  digit =
+      sym (c .before .is-digit .ensures ∙ ap isDigit (c .before .before .byte-at .ensures))
+      ∙ not-false (c .before .is-digit .result) (c .if1 .left)
+
+  low : 48 ≤ c .before .before .byte-at .result
+  low = rw (c .before .before .byte-at .ensures) (digit-low _ digit)
+
+  high : c .before .before .byte-at .result ≤ 57
+  high = rw (c .before .before .byte-at .ensures) (digit-high _ digit)
+
+  room : c .before .before .before .before .loop .value < 10 ^ 5
+  room =
+      let w = c .before .before .before .before .loop in
+      below-power (w .value) (w .count) 5 (w .inv .2) (omega arith)
+
+loop-holds : tie.Need-loop-holds Inv-loop μ-loop
+loop-holds c = (omega arith, omega arith, lit< tt, simp (sub-zero, add-zero))
+
+add-byte-at : tie.Need-add-byte-at Inv-loop μ-loop
+add-byte-at c = search needs
+
+byte-at-requires : tie.Need-byte-at-requires Inv-loop μ-loop
+byte-at-requires c κs = search needs
+
+is-digit-requires : tie.Need-is-digit-requires Inv-loop μ-loop
+is-digit-requires c κs = search needs
+
+returns : tie.Need-returns Inv-loop μ-loop
+returns c =
+    let w = c .before .before .before .before .loop in
+    let a = c .before .before .before .before .before .before .args in
+    let i = a .from + w .count in
+    let stop : isDigit (getD (a .bytes .now) i 0) ≡ false =
+    sym (c .before .is-digit .ensures ∙ ap isDigit (c .before .before .byte-at .ensures))
+    ∙ not-true (c .before .is-digit .result) (c .if1 .taken) in
+    ap held (sym (digits-stop (a .bytes .now) (w .value) (w .count) i (a .most - w .count) stop) ∙ w .inv .3)
+
+mul-value : tie.Need-mul-value Inv-loop μ-loop
+mul-value c = omega (arith, room c)
+
+sub-value : tie.Need-sub-value Inv-loop μ-loop
+sub-value c = low c
+
+cast-value : tie.Need-cast-value Inv-loop μ-loop
+cast-value c = omega (arith, high c)
+
+add-value : tie.Need-add-value Inv-loop μ-loop
+add-value c = omega (arith, room c, high c)
+
+add-count : tie.Need-add-count Inv-loop μ-loop
+add-count c = search needs
+
+loop-less : tie.Need-loop-less Inv-loop μ-loop
+loop-less c = search needs
+
+loop-again : tie.Need-loop-again Inv-loop μ-loop
+loop-again c =
+    let w = c .before .before .before .before .loop in
+    let a = c .before .before .before .before .before .before .args in
+    let i = a .from + w .count in
+    let next : a .from + (w .count + 1) ≡ i + 1 = omega arith in (
+      omega arith,
+      omega (arith, digit-inside (a .bytes .now) i (digit c)),
+      one-more (w .value) (c .before .before .byte-at .result - 48) (w .count) (w .inv .2) (omega (arith, high c)),
+      rw (next, c .before .before .byte-at .ensures)
+          (sym (digits-more (a .bytes .now) (w .value) (w .count) i (a .most) (digit c) (omega arith)) ∙ w .inv .3),
+    )
+
+returns-2 : tie.Need-returns-2 Inv-loop μ-loop
+returns-2 c =
+    let w = c .before .loop in
+    let a = c .before .before .before .args in
+    let rest = drop (a .from + w .count) (a .bytes .now) in
+    ap held (sym (digits-full (a .most - w .count) (w .value) (w .count) rest (omega arith)) ∙ w .inv .3)
+
+pub read-digits-spec : {M : Type 1} → statement M
+read-digits-spec =
+    tie.close
+    (tie.spec
+    Inv-loop
+    μ-loop
+    loop-holds
+    add-byte-at
+    byte-at-requires
+    is-digit-requires
+    returns
+    mul-value
+    sub-value
+    cast-value
+    add-value
+    add-count
+    loop-less
+    loop-again
+    returns-2)
