@@ -5,7 +5,7 @@ ghost use Prim.Native.Nat.{_+_, _*_, _^_, _≤_, _<_};
 ghost use lib.Dec.{eqb};
 ghost use lib.ListN.{length, drop, getD};
 ghost use Rattle.aries.specs.Test.{both, either, within, pick};
-ghost use Rattle.aries.specs.Letters.{letterA};
+ghost use Rattle.aries.specs.Letters.{letterA, letterG, letterN};
 ghost use Rattle.aries.specs.Text.{isCapital, isDigit};
 ghost use Rattle.aries.specs.Words.{digits, isSign, word, wordOf, minus};
 ghost use Rattle.aries.specs.Words.{isPlain, isReadingCode, isPatternCode};
@@ -257,6 +257,13 @@ pub fn add(words: Words, letter: u8, word: Word) -> Words
     with_letter(words, letter, word)
 }
 
+// Whether a letter is G or N, whose words have rules of their own.
+fn is_apart(letter: u8) -> bool
+    ensures { λ r. ⌜ r ≡ either (eqb letter letterG) (eqb letter letterN) ⌝ }
+{
+    is_either(letter == b'G', letter == b'N')
+}
+
 // No words yet.
 fn no_words() -> Words
     ensures { λ r. ⌜ r ≡ noWords ⌝ }
@@ -295,8 +302,19 @@ pub fn read_words(bytes: &[u8]) -> Gathered
         let reading = read_word(bytes, at);
         match reading {
             Reading::Word(letter, word, end) => {
-                words = add(words, letter, word);
                 at = end;
+                if is_apart(letter) {
+                    words = add(words, letter, word);
+                    continue;
+                }
+                // as with_letter does, in place: the words are not copied
+                let index = (letter - b'A') as usize;
+                let old = words.letters[index];
+                let late = is_late(letter, words.coded, words.code);
+                words.misplaced = is_either(words.misplaced, is_either(old.written, late));
+                words.begun = true;
+                words.others = words.others + 1;
+                words.letters[index] = word;
             }
             Reading::Malformed => {
                 return Gathered {
