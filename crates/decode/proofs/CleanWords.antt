@@ -15,7 +15,7 @@ use Rattle.aries.specs.Test.{both, pick}
 use Rattle.aries.specs.Text.{isCapital}
 use Rattle.aries.specs.Words.{Digits, Read, digits, point, wholeWord, pointWord, frontSize, wordFrom, word}
 use Rattle.aries.specs.Words.{noWords, added, gather, words}
-use Rattle.words.proofs.Word.{Formed, formed}
+use Rattle.words.proofs.Word.{formed}
 use Rattle.words.proofs.Gathering.{gather-end, gather-none, gather-some, words-start}
 use Rattle.blocks.specs.Clean.{CleanWord, Clean}
 use Rattle.blocks.proofs.Clean.{noWords-clean, written-clean, added-clean}

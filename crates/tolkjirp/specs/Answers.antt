@@ -1,0 +1,14 @@
+-- What the expander promises: its answer and the lent list, against the definitions.
+use mathlib.Core.Path.{_≡_}
+use mathlib.Core.List.{List}
+use Prim.Native.Nat.{ℕ}
+use lib.IntN.{ℤ}
+use Rattle.aries.specs.declared.answer.Answer.{Answer}
+use Rattle.aries.specs.Outcome.{Out}
+use Rattle.aries.specs.Hits.{Hit}
+use Rattle.aries.specs.Program.{answerOf, listOf}
+
+-- The answer and the list of so many numbers are those of the hits, or of the refusal.
+pub record Answers (answer : Answer) (list : List ℤ) (numbers : ℕ) (out : Out (List Hit)) : Type 0 where
+  pub answered : answer ≡ answerOf out
+  pub listed : list ≡ listOf numbers out

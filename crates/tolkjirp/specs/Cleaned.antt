@@ -1,0 +1,15 @@
+-- What is left of a text's meaning once its length is known to be allowed.
+use mathlib.Core.List.{List}
+use Prim.Native.Nat.{ℕ}
+use lib.ListN.{length}
+use Rattle.aries.specs.Outcome.{Out, _>>=_}
+use Rattle.aries.specs.Text.{strayLine, withoutSpaces, lines}
+use Rattle.aries.specs.Hits.{Hit}
+use Rattle.aries.specs.Judging.{lent}
+use Rattle.aries.specs.Program.{noStray, perform}
+
+-- 2 looks at the whole text, and then its blocks are carried out
+abbrev pub afterCleaning : List ℕ → ℕ → Out (List Hit)
+afterCleaning text numbers = do
+  _ ← noStray (strayLine 1 text)
+  perform (lent numbers) (withoutSpaces text) (length (lines text))

@@ -1,0 +1,121 @@
+// The expander of ARIES punch code: from a program text to its list of hits.
+use aries::answer::Answer;
+use aries::refusal;
+use aries::setup::Stage;
+use aries::state::Status;
+use program::lines::run_text;
+use text::Cleaned;
+ghost use mathlib.Core.Path.{_≡_};
+ghost use mathlib.Core.List.{_++_};
+ghost use Prim.Native.Nat.{_+_, _-_, _*_, _≤_};
+ghost use lib.IntN.{pos};
+ghost use lib.ListN.{length, take, replicate};
+ghost use Rattle.aries.specs.Text.{lines, longest, withoutSpaces, strayLine};
+ghost use Rattle.aries.specs.Judging.{lent};
+ghost use Rattle.aries.specs.Program.{isEnded, perform, expand};
+ghost use Rattle.tolkjirp.specs.Answers.{Answers};
+ghost use Rattle.tolkjirp.specs.Cleaned.{afterCleaning};
+
+// The most bytes a text may have.
+pub const LONGEST: usize = 60_000;
+
+// The most bytes of a short text: its buffer is small, since clearing the large one takes time.
+const SHORT: usize = 4_096;
+
+// Clears a list from a place on.
+fn clear_from(list: &mut [i32], from: usize)
+    requires { ⌜ from ≤ length (now list) ⌝ }
+    ensures { λ _. ⌜ now (list .exit) ≡ take from (now (list .entry)) ++ replicate (length (now (list .entry)) - from) (pos 0) ⌝ }
+{
+    let mut i = from;
+    while i < list.len() {
+        list[i] = 0;
+        i += 1;
+    }
+}
+
+// A refusal: the list is cleared.
+fn refuse(list: &mut [i32], number: u8, line: u64) -> Answer
+    ensures { λ r. ⌜ (r ≡ Answer.Refused number line) × (now (list .exit) ≡ replicate (length (now (list .entry))) (pos 0)) ⌝ }
+{
+    clear_from(list, 0);
+    Answer::Refused(number, line)
+}
+
+// Whether G50 has come.
+fn is_ended(stage: Stage) -> bool
+    ensures { λ r. ⌜ r ≡ isEnded stage ⌝ }
+{
+    if let Stage::Ended = stage {
+        true
+    } else {
+        false
+    }
+}
+
+// The blocks of a text without its spaces; whole is the text with them, whose last line a missing G50 is refused in.
+fn perform(list: &mut [i32], text: &[u8], whole: &[u8]) -> Answer
+    requires { ⌜ length (now text) ≤ longest ⌝ }
+    ensures { λ r. ⌜ Answers r (now (list .exit)) (length (now (list .entry))) (perform (lent (length (now (list .entry)))) (now (text .entry)) (length (lines (now (whole .entry))))) ⌝ }
+{
+    let run = run_text(list, text);
+    let status = run.status;
+    if let Status::Refused(number, line) = status {
+        return refuse(list, number, line);
+    }
+    let left = run.program;
+    let stage = left.stage;
+    if !is_ended(stage) {
+        return refuse(list, refusal::OUT_OF_PLACE, text::count_lines(whole));
+    }
+    let hits = left.progress.hits;
+    clear_from(list, hits * 4);
+    Answer::Hits(hits)
+}
+
+// A text of a length that is allowed, by way of a buffer for its bytes other than spaces.
+fn expand_through(text: &[u8], buffer: &mut [u8], list: &mut [i32]) -> Answer
+    requires { ⌜ (length (now text) ≤ longest) × (length (now text) ≤ length (now buffer)) ⌝ }
+    ensures { λ r. ⌜ Answers r (now (list .exit)) (length (now (list .entry))) (afterCleaning (now (text .entry)) (length (now (list .entry)))) ⌝ }
+{
+    let cleaned = text::clean(text, buffer);
+    match cleaned {
+        Cleaned::Stray(line) => refuse(list, refusal::STRAY_BYTE, line),
+        Cleaned::Dense(n) => perform(list, &buffer[..n], text),
+    }
+}
+
+// A short text, in a small buffer.
+fn expand_short(text: &[u8], list: &mut [i32]) -> Answer
+    requires { ⌜ length (now text) ≤ 4096 ⌝ }
+    ensures { λ r. ⌜ Answers r (now (list .exit)) (length (now (list .entry))) (afterCleaning (now (text .entry)) (length (now (list .entry)))) ⌝ }
+{
+    let mut buffer = [0u8; SHORT];
+    expand_through(text, &mut buffer, list)
+}
+
+// Any other text that is not too long.
+fn expand_long(text: &[u8], list: &mut [i32]) -> Answer
+    requires { ⌜ length (now text) ≤ longest ⌝ }
+    ensures { λ r. ⌜ Answers r (now (list .exit)) (length (now (list .entry))) (afterCleaning (now (text .entry)) (length (now (list .entry)))) ⌝ }
+{
+    let mut buffer = [0u8; LONGEST];
+    expand_through(text, &mut buffer, list)
+}
+
+// Expands a program text into a lent list, four numbers a hit: X, Y, tool and mode. What the hits leave of the list is
+// zero, and after a refusal all of it.
+pub fn expand(text: &[u8], list: &mut [i32]) -> Answer
+    ensures { λ r. ⌜ Answers r (now (list .exit)) (length (now (list .entry))) (expand (now (text .entry)) (length (now (list .entry)))) ⌝ }
+{
+    if text.len() == 0 {
+        return refuse(list, refusal::TEXT_LENGTH, 0);
+    }
+    if LONGEST < text.len() {
+        return refuse(list, refusal::TEXT_LENGTH, 0);
+    }
+    if text.len() <= SHORT {
+        return expand_short(text, list);
+    }
+    expand_long(text, list)
+}
