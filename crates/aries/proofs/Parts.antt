@@ -2,6 +2,7 @@
 -- accepted where it is by bounds alone and what it counts fits.
 use mathlib.Core.Path.{sym, subst}
 use mathlib.Core.Bool.{Bool, true, false}
+use Prim.Native.Nat.{_-_}
 use Rattle.aries.specs.declared.point.Point.{Point}
 use Rattle.aries.specs.declared.state.Progress.{Progress}
 use Rattle.aries.specs.Outcome.{Out}
@@ -9,7 +10,7 @@ use Rattle.aries.specs.Hits.{Made}
 use Rattle.aries.specs.Machine.{covers}
 use Rattle.aries.specs.Judging.{Judging, judged, near, unjudged}
 use Rattle.aries.specs.Moves.{zeroPoint, _⊕_}
-use Rattle.aries.specs.Macros.{firstLine, body, runBody}
+use Rattle.aries.specs.Macros.{firstLine, body, mostCalls, runBody}
 use Rattle.aries.specs.Layouts.{copyStart, frameAt, partOf}
 use Rattle.aries.specs.Setup.{ordinaryFrame}
 use Rattle.aries.specs.CopyRuns.{Circumstances}
@@ -57,7 +58,7 @@ module _ (c : Circumstances) where
   unfolding runBody body
   part-own j p n n′ =
       subst (λ (q : Point). Follows ⊥ j p n n′ (partAt j q n) (ownRun n′)) (zero-⊕ p)
-      (runBody-follows j false p (bounds-dropped j p) (c .text) (c .setup .macros) 3 (frameAt (ordinaryFrame (c .setup)) zeroPoint)
+      (runBody-follows j false p (bounds-dropped j p) (c .text) (c .setup .macros) (mostCalls - 1) (frameAt (ordinaryFrame (c .setup)) zeroPoint)
       (firstLine (c .setup .macros) (c .part)) (body (c .text) (c .setup .macros) (c .part)) (copyStart (c .before .state) zeroPoint) n n′)
 
   -- it is accepted where it is by bounds alone and what it counts fits
@@ -67,5 +68,5 @@ module _ (c : Circumstances) where
   unfolding runBody body
   part-bounds j p n n′ =
       subst (λ (q : Point). Follows (Unit {0}) j zeroPoint n n′ (partAt j q n) (partAt (unlimited (j .bounds)) p n′)) (⊕-zero p)
-      (runBody-follows j (j .bounds) zeroPoint (bounds-alike j) (c .text) (c .setup .macros) 3 (frameAt (ordinaryFrame (c .setup)) p)
+      (runBody-follows j (j .bounds) zeroPoint (bounds-alike j) (c .text) (c .setup .macros) (mostCalls - 1) (frameAt (ordinaryFrame (c .setup)) p)
       (firstLine (c .setup .macros) (c .part)) (body (c .text) (c .setup .macros) (c .part)) (copyStart (c .before .state) p) n n′)

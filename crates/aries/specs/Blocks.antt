@@ -10,8 +10,8 @@ use lib.IntN.{ℤ, pos, natAbs}
 use lib.Signed.{ltZ}
 use lib.ListN.{length}
 use Rattle.aries.specs.declared.point.Point.{Point}
-use Rattle.aries.specs.declared.words.Word.{Word}
-use Rattle.aries.specs.declared.words.Words.{Words}
+use Rattle.aries.specs.declared.word.Word.{Word}
+use Rattle.aries.specs.declared.word.Words.{Words}
 use Rattle.aries.specs.declared.block.Kind.{Kind}
 use Rattle.aries.specs.declared.block.Kind.the-variants.{G26, G28, G29, G36, G37, G50, G70, G72, G75, G76, G92, G93, G98, Position, Lone, LetterM, LetterB, LetterU, LetterV, LetterW, Unknown}
 use Rattle.aries.specs.declared.block.Axis.{Axis}

@@ -21,7 +21,7 @@ use Rattle.aries.specs.Hits.{Made, still, andThen}
 use Rattle.aries.specs.Judging.{Judging, judged, near}
 use Rattle.aries.specs.Lanes.{lane, along}
 use Rattle.aries.specs.Moves.{pointAt, _⊕_, movedTo, waitingFor, withState}
-use Rattle.aries.specs.Macros.{isStored, firstLine, body, runBody}
+use Rattle.aries.specs.Macros.{isStored, firstLine, body, mostCalls, runBody}
 
 -- ---- Places
 
@@ -89,7 +89,7 @@ copyAll j part f line found place (suc n) m g = andThen (copy j part f line foun
 -- the part that W names, carried out with one call open
 abbrev pub partOf : Judging → List ℕ → Setup → ℕ → Part
 unfolding runBody body
-partOf j text s n f g = runBody j text (s .macros) 3 f (firstLine (s .macros) n) (body text (s .macros) n) g
+partOf j text s n f g = runBody j text (s .macros) (mostCalls - 1) f (firstLine (s .macros) n) (body text (s .macros) n) g
 
 abbrev pub copyOver : Judging → List ℕ → Setup → ℕ → Copies → Sheet → Progress → Out (Made Progress)
 unfolding copyAll copyPlace runBody body

@@ -3,7 +3,7 @@
 use mathlib.Core.Bool.{Bool, true, false}
 use mathlib.Core.List.{List, [], _∷_}
 use mathlib.Core.Option.{Option, none, some}
-use Prim.Native.Nat.{ℕ, suc, _+_}
+use Prim.Native.Nat.{ℕ, suc, _+_, _-_}
 use lib.Dec.{leb}
 use lib.ListN.{take, drop}
 use Rattle.aries.specs.declared.point.Point.{Point}
@@ -27,7 +27,7 @@ use Rattle.aries.specs.Hits.{Made, still, leaving}
 use Rattle.aries.specs.Judging.{Judging, judged, near}
 use Rattle.aries.specs.Machine.{named}
 use Rattle.aries.specs.Moves.{pointAt, zeroPoint, _⊕_, movedTo, freshState, withState}
-use Rattle.aries.specs.Macros.{noMacros, storing, characters, runBody}
+use Rattle.aries.specs.Macros.{noMacros, storing, characters, mostCalls, runBody}
 use Rattle.aries.specs.Bodies.{bodySize}
 
 -- ---- A program under way, changed in one respect
@@ -114,7 +114,7 @@ unfoldable pub firstRun : Judging → List ℕ → ℕ → ℕ → ℕ → ℕ �
 unfolding runBody
 firstRun j text n start size line p =
     elim (runsFirst n (p .setup .sheet)) [
-      | true ↦ runBody j text (p .setup .macros) 3 (ordinaryFrame (p .setup)) (suc line) (take size (drop start text)) (p .progress)
+      | true ↦ runBody j text (p .setup .macros) (mostCalls - 1) (ordinaryFrame (p .setup)) (suc line) (take size (drop start text)) (p .progress)
       | false ↦ still (p .progress)
     ]
 

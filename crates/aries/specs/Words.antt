@@ -7,8 +7,8 @@ use lib.Dec.{leb, eqb}
 use lib.IntN.{ℤ, pos, natAbs}
 use lib.ListN.{length, getD, drop, set, replicate}
 use Rattle.signed.specs.Signed.{withSign}
-use Rattle.aries.specs.declared.words.Word.{Word}
-use Rattle.aries.specs.declared.words.Words.{Words}
+use Rattle.aries.specs.declared.word.Word.{Word}
+use Rattle.aries.specs.declared.word.Words.{Words}
 use Rattle.aries.specs.Letters.{letterA, letterG, letterN, indexOf}
 use Rattle.aries.specs.Test.{both, either, among, pick}
 use Rattle.aries.specs.Text.{isCapital, isDigit}

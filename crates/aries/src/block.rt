@@ -148,3 +148,9 @@ pub enum Decoded {
     Instruction(Instruction),
     Refused(u8, u64),
 }
+
+// What a block is judged to be: of a kind, with its G90 or G91, or a refusal's number.
+pub enum Judged {
+    Of(Kind, Measure),
+    Refused(u8),
+}

@@ -12,10 +12,10 @@ use Rattle.aries.specs.declared.block.Kind.the-variants.{G26, G28, G29, G36, G3
 use Rattle.aries.proofs.block.Kind as Declared
 
 -- the place of a kind among all of them
-abbrev place : Kind → ℕ
+abbrev pub place : Kind → ℕ
 place k = tagOf Declared.the-type k
 
-abbrev places : List Kind → List ℕ
+abbrev pub places : List Kind → List ℕ
 places [] = []
 places (k ∷ ks) = place k ∷ places ks
 

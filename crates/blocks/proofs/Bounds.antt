@@ -11,8 +11,8 @@ use lib.IntN.{natAbs}
 use lib.ListN.{length, getD}
 use borrow.Author.Tests.{leb-true}
 use Rattle.signed.proofs.Tests.{both-left, both-right}
-use Rattle.aries.specs.declared.words.Word.{Word}
-use Rattle.aries.specs.declared.words.Words.{Words}
+use Rattle.aries.specs.declared.word.Word.{Word}
+use Rattle.aries.specs.declared.word.Words.{Words}
 use Rattle.aries.specs.declared.block.Kind.{Kind}
 use Rattle.aries.specs.declared.block.Kind.the-variants.{G26}
 use Rattle.aries.specs.Letters.{letterA, letterK, letterT}
@@ -23,6 +23,10 @@ use Rattle.blocks.specs.Clean.{Clean, CleanWord}
 use Rattle.blocks.specs.Decoding.{passes}
 
 -- ---- One word
+
+-- the test of a word, for the one that it is
+pub passed : (range : Range) {r : Bool} {u v : Word} → r ≡ passes range v → v ≡ u → r ≡ passes range u
+passed range e f = e ∙ ap (passes range) f
 
 -- a number that is absent, or within bounds by a test
 absent-or : (v : Word) (t : Bool) (least most : ℕ) → CleanWord v → either (not (v .written)) (both t (within least most (natAbs (v .value)))) ≡ true → natAbs (v .value) ≤ most

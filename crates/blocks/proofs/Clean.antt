@@ -8,8 +8,8 @@ use native.Mathlib.Omega.{arith}
 use lib.Dec.{eqb}
 use lib.IntN.{natAbs}
 use lib.ListN.{getD, set, replicate}
-use Rattle.aries.specs.declared.words.Word.{Word}
-use Rattle.aries.specs.declared.words.Words.{Words}
+use Rattle.aries.specs.declared.word.Word.{Word}
+use Rattle.aries.specs.declared.word.Words.{Words}
 use Rattle.aries.specs.Letters.{letterG, letterN, indexOf}
 use Rattle.aries.specs.Test.{pick}
 use Rattle.aries.specs.Words.{noWord, noWords, withReading, withCode, withNumber, withLetter, isReadingCode, added}

@@ -2,6 +2,7 @@ pub mod Arms
 pub mod Bounds
 pub mod Clean
 pub mod Decode
+pub mod Alone
 pub mod Listing
 pub mod Tests
 pub mod Decoded

@@ -7,7 +7,7 @@ use Prim.Native.Nat.{ℕ, _+_}
 use native.Mathlib.Omega.{arith}
 use lib.Dec.{eqb, leb}
 use lib.ListN.{length}
-use Rattle.aries.specs.declared.words.Words.{Words}
+use Rattle.aries.specs.declared.word.Words.{Words}
 use Rattle.aries.specs.Test.{both, either, among}
 use Rattle.aries.specs.Blocks.{present, oneOfThem}
 use Rattle.blocks.proofs.Tests.{either-six}

@@ -3,8 +3,8 @@ use mathlib.Core.Path.{_≡_}
 use mathlib.Core.Bool.{false}
 use Prim.Native.Nat.{ℕ, _≤_}
 use lib.IntN.{pos, natAbs}
-use Rattle.aries.specs.declared.words.Word.{Word}
-use Rattle.aries.specs.declared.words.Words.{Words}
+use Rattle.aries.specs.declared.word.Word.{Word}
+use Rattle.aries.specs.declared.word.Words.{Words}
 use Rattle.aries.specs.Words.{at}
 
 -- a word that is not written has the value 0, and none is larger in size than 999,999

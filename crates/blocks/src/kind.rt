@@ -1,9 +1,10 @@
 ghost use mathlib.Core.Path.{_≡_};
 ghost use Rattle.aries.specs.Blocks.{lookup, codes, plainKind, kindOf};
 ghost use Rattle.aries.specs.declared.block.Kind.the-variants.{Unknown};
+ghost use Rattle.words.specs.Keeping.{wordsOf, wordsWith};
 use crate::lookup::has;
 use aries::block::Kind;
-use aries::words::Words;
+use words::Tally;
 
 // The kind of a block with a code.
 fn coded_kind(code: u32) -> Kind
@@ -28,37 +29,37 @@ fn coded_kind(code: u32) -> Kind
 }
 
 // The kind of a block without a code.
-fn plain_kind(w: Words) -> Kind
-    ensures { λ r. ⌜ r ≡ plainKind w ⌝ }
+fn plain_kind(forms: &[u8; 26], numbers: &[i32; 26]) -> Kind
+    ensures { λ r. ⌜ r ≡ plainKind (wordsOf (now (forms .entry)) (now (numbers .entry))) ⌝ }
 {
-    if has(w, b'M') {
+    if has(forms, numbers, b'M') {
         return Kind::LetterM;
     }
-    if has(w, b'B') {
+    if has(forms, numbers, b'B') {
         return Kind::LetterB;
     }
-    if has(w, b'U') {
+    if has(forms, numbers, b'U') {
         return Kind::LetterU;
     }
-    if has(w, b'V') {
+    if has(forms, numbers, b'V') {
         return Kind::LetterV;
     }
-    if has(w, b'W') {
+    if has(forms, numbers, b'W') {
         return Kind::LetterW;
     }
-    if has(w, b'X') | has(w, b'Y') {
+    if has(forms, numbers, b'X') | has(forms, numbers, b'Y') {
         return Kind::Position;
     }
     Kind::Lone
 }
 
 // The kind of a block: by its code, or else by its letters.
-pub fn kind_of(w: Words) -> Kind
-    ensures { λ r. ⌜ r ≡ kindOf w ⌝ }
+pub fn kind_of(forms: &[u8; 26], numbers: &[i32; 26], tally: Tally) -> Kind
+    ensures { λ r. ⌜ r ≡ kindOf (wordsWith (now (forms .entry)) (now (numbers .entry)) tally) ⌝ }
 {
-    if w.coded {
-        coded_kind(w.code)
+    if tally.coded {
+        coded_kind(tally.code)
     } else {
-        plain_kind(w)
+        plain_kind(forms, numbers)
     }
 }

@@ -1,11 +1,9 @@
-// From the words of a block to what it asks for: its kind, refusals 5 and 6, and the instruction.
-ghost use mathlib.Core.Path.{_≡_};
-ghost use Rattle.blocks.specs.Clean.{Clean};
-ghost use Rattle.blocks.specs.Decoding.{decodedOf, decodeWords};
-use aries::block::Decoded;
-use aries::block::Instruction;
+// From the words of a block to what it asks for: its kind, refusals 5 and 6, and the block of its kind.
+ghost use Rattle.blocks.specs.Decoding.{decodeWords, Judges};
+ghost use Rattle.words.specs.Keeping.{wordsWith};
+use aries::block::Judged;
 use aries::refusal;
-use aries::words::Words;
+use words::Tally;
 
 pub mod kind; // codes
 pub mod letters; // refusal 5
@@ -13,20 +11,17 @@ pub mod lookup; // the word with a letter
 pub mod numbers; // refusal 6
 pub mod request; // what a block asks for
 
-// The instruction of a block, or refusal 5 or 6 with the block's line.
-pub fn instruction(w: Words, line: u64) -> Decoded
-    requires { ⌜ Clean w ⌝ }
-    ensures { λ r. ⌜ r ≡ decodedOf (decodeWords w line) ⌝ }
+// The kind of a block and its G90 or G91, or refusal 5 or 6.
+pub fn judge(forms: &[u8; 26], numbers: &[i32; 26], tally: Tally) -> Judged
+    ensures { λ r. ⌜ Judges (decodeWords (wordsWith (now (forms .entry)) (now (numbers .entry)) tally)) (wordsWith (now (forms .entry)) (now (numbers .entry)) tally) r ⌝ }
 {
-    let kind = kind::kind_of(w);
-    if !letters::is_listed(w, kind) {
-        return Decoded::Refused(refusal::NOT_LISTED, line);
+    let kind = kind::kind_of(forms, numbers, tally);
+    if !letters::is_listed(forms, numbers, tally, kind) {
+        return Judged::Refused(refusal::NOT_LISTED);
     }
-    if !numbers::is_ranged(w, kind) {
-        return Decoded::Refused(refusal::WRONG_NUMBER, line);
+    if !numbers::is_ranged(forms, numbers, kind) {
+        return Judged::Refused(refusal::WRONG_NUMBER);
     }
-    let measure = request::measure_of(w);
-    let block = request::block_of(w, kind);
-    let i = Instruction { measure, block };
-    Decoded::Instruction(i)
+    let measure = request::measure_of(tally);
+    Judged::Of(kind, measure)
 }

@@ -3,24 +3,26 @@ ghost use Prim.Native.Nat.{_≤_};
 ghost use lib.IntN.{pos, natAbs};
 ghost use lib.Signed.{ltZ};
 ghost use Rattle.aries.specs.Words.{at, has, isPlain};
-use aries::words::Word;
-use aries::words::Words;
+ghost use Rattle.words.specs.Keeping.{wordsOf};
+use aries::word::Word;
 
-// The word with a letter.
-pub fn word_at(w: Words, letter: u8) -> Word
+// The word with a letter, from the two lists of a block (`words::read_words`).
+pub fn word_at(forms: &[u8; 26], numbers: &[i32; 26], letter: u8) -> Word
     requires { ⌜ (65 ≤ letter) × (letter ≤ 90) ⌝ }
-    ensures { λ r. ⌜ r ≡ at w letter ⌝ }
+    ensures { λ r. ⌜ r ≡ at (wordsOf (now (forms .entry)) (now (numbers .entry))) letter ⌝ }
 {
     let i = (letter - b'A') as usize;
-    w.letters[i]
+    let form = forms[i];
+    let number = numbers[i];
+    words::word_in(form, number)
 }
 
 // Whether a letter stands in the block.
-pub fn has(w: Words, letter: u8) -> bool
+pub fn has(forms: &[u8; 26], numbers: &[i32; 26], letter: u8) -> bool
     requires { ⌜ (65 ≤ letter) × (letter ≤ 90) ⌝ }
-    ensures { λ r. ⌜ r ≡ has w letter ⌝ }
+    ensures { λ r. ⌜ r ≡ has (wordsOf (now (forms .entry)) (now (numbers .entry))) letter ⌝ }
 {
-    word_at(w, letter).written
+    word_at(forms, numbers, letter).written
 }
 
 // The number of a word without its sign.

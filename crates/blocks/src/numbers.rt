@@ -3,14 +3,14 @@ ghost use Rattle.aries.specs.declared.block.Kind.the-variants.{G98};
 ghost use Rattle.aries.specs.Blocks.{aboveZero, notNegative, whole, signedWhole, numberFits, rangesOf, commonRanges, isRanged};
 ghost use Rattle.aries.specs.Test.{every, within};
 ghost use Rattle.blocks.specs.Decoding.{passes};
+ghost use Rattle.words.specs.Keeping.{wordsOf};
 use crate::lookup::is_negative;
 use crate::lookup::is_plain;
 use crate::lookup::is_positive;
 use crate::lookup::size_of;
 use crate::lookup::word_at;
 use aries::block::Kind;
-use aries::words::Word;
-use aries::words::Words;
+use aries::word::Word;
 
 // Whether least ≤ n ≤ most.
 fn within(least: u32, most: u32, n: u32) -> bool
@@ -48,48 +48,54 @@ fn signed_whole(v: Word, least: u32, most: u32) -> bool
 }
 
 // N, T and A, wherever they stand.
-fn common_fit(w: Words) -> bool
-    ensures { λ r. ⌜ r ≡ every (numberFits w) commonRanges ⌝ }
+fn common_fit(forms: &[u8; 26], numbers: &[i32; 26]) -> bool
+    ensures { λ r. ⌜ r ≡ every (numberFits (wordsOf (now (forms .entry)) (now (numbers .entry)))) commonRanges ⌝ }
 {
-    whole(word_at(w, b'N'), 0, 9999)
-        & whole(word_at(w, b'T'), 1, 99)
-        & whole(word_at(w, b'A'), 1, 5)
+    whole(word_at(forms, numbers, b'N'), 0, 9999)
+        & whole(word_at(forms, numbers, b'T'), 1, 99)
+        & whole(word_at(forms, numbers, b'A'), 1, 5)
 }
 
 // The numbers of G98: lengths that are not negative, and steps of at most 99.
-fn layout_fits(w: Words) -> bool
-    ensures { λ r. ⌜ r ≡ every (numberFits w) (rangesOf G98) ⌝ }
+fn layout_fits(forms: &[u8; 26], numbers: &[i32; 26]) -> bool
+    ensures { λ r. ⌜ r ≡ every (numberFits (wordsOf (now (forms .entry)) (now (numbers .entry)))) (rangesOf G98) ⌝ }
 {
-    let lengths = not_negative(word_at(w, b'X'))
-        & not_negative(word_at(w, b'Y'))
-        & not_negative(word_at(w, b'I'))
-        & not_negative(word_at(w, b'J'))
-        & not_negative(word_at(w, b'D'));
-    lengths & whole(word_at(w, b'P'), 0, 99) & whole(word_at(w, b'K'), 0, 99)
+    let lengths = not_negative(word_at(forms, numbers, b'X'))
+        & not_negative(word_at(forms, numbers, b'Y'))
+        & not_negative(word_at(forms, numbers, b'I'))
+        & not_negative(word_at(forms, numbers, b'J'))
+        & not_negative(word_at(forms, numbers, b'D'));
+    lengths
+        & whole(word_at(forms, numbers, b'P'), 0, 99)
+        & whole(word_at(forms, numbers, b'K'), 0, 99)
 }
 
 // The letters of a kind whose numbers are limited.
-fn ranges_fit(w: Words, kind: Kind) -> bool
-    ensures { λ r. ⌜ r ≡ every (numberFits w) (rangesOf kind) ⌝ }
+fn ranges_fit(forms: &[u8; 26], numbers: &[i32; 26], kind: Kind) -> bool
+    ensures { λ r. ⌜ r ≡ every (numberFits (wordsOf (now (forms .entry)) (now (numbers .entry)))) (rangesOf kind) ⌝ }
 {
     match kind {
-        Kind::G26 => above_zero(word_at(w, b'I')) & signed_whole(word_at(w, b'K'), 1, 999),
-        Kind::G28 => whole(word_at(w, b'K'), 1, 999),
-        Kind::G29 => above_zero(word_at(w, b'I')) & whole(word_at(w, b'K'), 1, 999),
-        Kind::G36 | Kind::G37 => whole(word_at(w, b'P'), 0, 999) & whole(word_at(w, b'K'), 0, 999),
-        Kind::G75 | Kind::G76 => whole(word_at(w, b'W'), 1, 89) & whole(word_at(w, b'Q'), 1, 4),
-        Kind::G98 => layout_fits(w),
-        Kind::LetterB => whole(word_at(w, b'B'), 1, 5),
-        Kind::LetterU => whole(word_at(w, b'U'), 1, 89),
-        Kind::LetterV => whole(word_at(w, b'V'), 1, 89),
-        Kind::LetterW => whole(word_at(w, b'W'), 1, 89),
+        Kind::G26 => above_zero(word_at(forms, numbers, b'I'))
+            & signed_whole(word_at(forms, numbers, b'K'), 1, 999),
+        Kind::G28 => whole(word_at(forms, numbers, b'K'), 1, 999),
+        Kind::G29 => above_zero(word_at(forms, numbers, b'I'))
+            & whole(word_at(forms, numbers, b'K'), 1, 999),
+        Kind::G36 | Kind::G37 => whole(word_at(forms, numbers, b'P'), 0, 999)
+            & whole(word_at(forms, numbers, b'K'), 0, 999),
+        Kind::G75 | Kind::G76 => whole(word_at(forms, numbers, b'W'), 1, 89)
+            & whole(word_at(forms, numbers, b'Q'), 1, 4),
+        Kind::G98 => layout_fits(forms, numbers),
+        Kind::LetterB => whole(word_at(forms, numbers, b'B'), 1, 5),
+        Kind::LetterU => whole(word_at(forms, numbers, b'U'), 1, 89),
+        Kind::LetterV => whole(word_at(forms, numbers, b'V'), 1, 89),
+        Kind::LetterW => whole(word_at(forms, numbers, b'W'), 1, 89),
         _ => true,
     }
 }
 
 // Whether the numbers of a block of a kind are of the right kind and in their ranges.
-pub fn is_ranged(w: Words, kind: Kind) -> bool
-    ensures { λ r. ⌜ r ≡ isRanged w kind ⌝ }
+pub fn is_ranged(forms: &[u8; 26], numbers: &[i32; 26], kind: Kind) -> bool
+    ensures { λ r. ⌜ r ≡ isRanged (wordsOf (now (forms .entry)) (now (numbers .entry))) kind ⌝ }
 {
-    ranges_fit(w, kind) & common_fit(w)
+    ranges_fit(forms, numbers, kind) & common_fit(forms, numbers)
 }

@@ -1,11 +1,13 @@
 ghost use mathlib.Core.Path.{_≡_};
 ghost use mathlib.Core.Bool.{true};
+ghost use mathlib.Core.List.{[]};
 ghost use Prim.Native.Nat.{_≤_};
 ghost use lib.IntN.{natAbs};
 ghost use Rattle.aries.specs.Blocks.{count, axes, steps, named, layout, copies, line, arc, circle, grid, run, mBlock, isRanged, blockOf, measureOf};
 ghost use Rattle.aries.specs.Letters.{letterA, letterK, letterP, letterQ, letterT, letterW};
 ghost use Rattle.blocks.specs.Clean.{Clean};
 ghost use Rattle.blocks.specs.Decoding.{axisOf};
+ghost use Rattle.words.specs.Keeping.{wordsFrom, wordsOf};
 use crate::lookup::is_negative;
 use crate::lookup::size_of;
 use crate::lookup::word_at;
@@ -20,8 +22,8 @@ use aries::block::Pattern;
 use aries::block::Pitch;
 use aries::block::Steps;
 use aries::point::Point;
-use aries::words::Word;
-use aries::words::Words;
+use aries::word::Word;
+use words::Tally;
 
 // A whole number of a word that a byte holds: a tool, a memory, a macro, a corner.
 fn small(v: Word) -> u8
@@ -50,20 +52,20 @@ fn axis_of(v: Word) -> Axis
 }
 
 // X and Y as they are written.
-fn axes_of(w: Words) -> Axes
-    ensures { λ r. ⌜ r ≡ axes w ⌝ }
+fn axes_of(forms: &[u8; 26], numbers: &[i32; 26]) -> Axes
+    ensures { λ r. ⌜ r ≡ axes (wordsOf (now (forms .entry)) (now (numbers .entry))) ⌝ }
 {
-    let x = axis_of(word_at(w, b'X'));
-    let y = axis_of(word_at(w, b'Y'));
+    let x = axis_of(word_at(forms, numbers, b'X'));
+    let y = axis_of(word_at(forms, numbers, b'Y'));
     Axes { x, y }
 }
 
 // X and Y as a point; an absent one is zero.
-fn point_of(w: Words) -> Point
-    ensures { λ r. ⌜ r ≡ named w ⌝ }
+fn point_of(forms: &[u8; 26], numbers: &[i32; 26]) -> Point
+    ensures { λ r. ⌜ r ≡ named (wordsOf (now (forms .entry)) (now (numbers .entry))) ⌝ }
 {
-    let x = word_at(w, b'X');
-    let y = word_at(w, b'Y');
+    let x = word_at(forms, numbers, b'X');
+    let y = word_at(forms, numbers, b'Y');
     Point {
         x: x.value,
         y: y.value,
@@ -71,28 +73,28 @@ fn point_of(w: Words) -> Point
 }
 
 // P and K as steps.
-fn steps_of(w: Words) -> Steps
-    requires { ⌜ (count w letterP ≤ 999) × (count w letterK ≤ 999) ⌝ }
-    ensures { λ r. ⌜ r ≡ steps w ⌝ }
+fn steps_of(forms: &[u8; 26], numbers: &[i32; 26]) -> Steps
+    requires { ⌜ (count (wordsOf (now forms) (now numbers)) letterP ≤ 999) × (count (wordsOf (now forms) (now numbers)) letterK ≤ 999) ⌝ }
+    ensures { λ r. ⌜ r ≡ steps (wordsOf (now (forms .entry)) (now (numbers .entry))) ⌝ }
 {
     Steps {
-        x: count(word_at(w, b'P')),
-        y: count(word_at(w, b'K')),
+        x: count(word_at(forms, numbers, b'P')),
+        y: count(word_at(forms, numbers, b'K')),
     }
 }
 
 // What G98 sets; D is added to both pitches.
-fn layout_of(w: Words) -> Layout
-    requires { ⌜ Clean w ⌝ }
-    requires { ⌜ (count w letterP ≤ 999) × (count w letterK ≤ 999) ⌝ }
-    ensures { λ r. ⌜ r ≡ layout w ⌝ }
+fn layout_of(forms: &[u8; 26], numbers: &[i32; 26]) -> Layout
+    requires { ⌜ Clean (wordsOf (now forms) (now numbers)) ⌝ }
+    requires { ⌜ (count (wordsOf (now forms) (now numbers)) letterP ≤ 999) × (count (wordsOf (now forms) (now numbers)) letterK ≤ 999) ⌝ }
+    ensures { λ r. ⌜ r ≡ layout (wordsOf (now (forms .entry)) (now (numbers .entry))) ⌝ }
 {
-    let reference = point_of(w);
-    let i = size_of(word_at(w, b'I'));
-    let j = size_of(word_at(w, b'J'));
-    let d = size_of(word_at(w, b'D'));
+    let reference = point_of(forms, numbers);
+    let i = size_of(word_at(forms, numbers, b'I'));
+    let j = size_of(word_at(forms, numbers, b'J'));
+    let d = size_of(word_at(forms, numbers, b'D'));
     let pitch = Pitch { x: i + d, y: j + d };
-    let steps = steps_of(w);
+    let steps = steps_of(forms, numbers);
     Layout {
         reference,
         pitch,
@@ -101,12 +103,12 @@ fn layout_of(w: Words) -> Layout
 }
 
 // The part and the corner of a G75 block, or with vertical of a G76 block.
-fn copies_of(w: Words, vertical: bool) -> Copies
-    requires { ⌜ (count w letterW ≤ 255) × (count w letterQ ≤ 255) ⌝ }
-    ensures { λ r. ⌜ r ≡ copies vertical w ⌝ }
+fn copies_of(forms: &[u8; 26], numbers: &[i32; 26], vertical: bool) -> Copies
+    requires { ⌜ (count (wordsOf (now forms) (now numbers)) letterW ≤ 255) × (count (wordsOf (now forms) (now numbers)) letterQ ≤ 255) ⌝ }
+    ensures { λ r. ⌜ r ≡ copies vertical (wordsOf (now (forms .entry)) (now (numbers .entry))) ⌝ }
 {
-    let part = small(word_at(w, b'W'));
-    let corner = small(word_at(w, b'Q'));
+    let part = small(word_at(forms, numbers, b'W'));
+    let corner = small(word_at(forms, numbers, b'Q'));
     Copies {
         vertical,
         part,
@@ -115,13 +117,13 @@ fn copies_of(w: Words, vertical: bool) -> Copies
 }
 
 // G28.
-fn line_of(w: Words) -> Pattern
-    requires { ⌜ count w letterK ≤ 999 ⌝ }
-    ensures { λ r. ⌜ r ≡ line w ⌝ }
+fn line_of(forms: &[u8; 26], numbers: &[i32; 26]) -> Pattern
+    requires { ⌜ count (wordsOf (now forms) (now numbers)) letterK ≤ 999 ⌝ }
+    ensures { λ r. ⌜ r ≡ line (wordsOf (now (forms .entry)) (now (numbers .entry))) ⌝ }
 {
-    let i = word_at(w, b'I');
-    let j = word_at(w, b'J');
-    let count = count(word_at(w, b'K'));
+    let i = word_at(forms, numbers, b'I');
+    let j = word_at(forms, numbers, b'J');
+    let count = count(word_at(forms, numbers, b'K'));
     Pattern::Line {
         pitch: i.value,
         angle: j.value,
@@ -130,14 +132,14 @@ fn line_of(w: Words) -> Pattern
 }
 
 // G29, in which P is an angle.
-fn arc_of(w: Words) -> Pattern
-    requires { ⌜ count w letterK ≤ 999 ⌝ }
-    ensures { λ r. ⌜ r ≡ arc w ⌝ }
+fn arc_of(forms: &[u8; 26], numbers: &[i32; 26]) -> Pattern
+    requires { ⌜ count (wordsOf (now forms) (now numbers)) letterK ≤ 999 ⌝ }
+    ensures { λ r. ⌜ r ≡ arc (wordsOf (now (forms .entry)) (now (numbers .entry))) ⌝ }
 {
-    let i = word_at(w, b'I');
-    let j = word_at(w, b'J');
-    let p = word_at(w, b'P');
-    let count = count(word_at(w, b'K'));
+    let i = word_at(forms, numbers, b'I');
+    let j = word_at(forms, numbers, b'J');
+    let p = word_at(forms, numbers, b'P');
+    let count = count(word_at(forms, numbers, b'K'));
     Pattern::Arc {
         radius: i.value,
         angle: j.value,
@@ -147,13 +149,13 @@ fn arc_of(w: Words) -> Pattern
 }
 
 // G26: K negative is clockwise.
-fn circle_of(w: Words) -> Pattern
-    requires { ⌜ count w letterK ≤ 999 ⌝ }
-    ensures { λ r. ⌜ r ≡ circle w ⌝ }
+fn circle_of(forms: &[u8; 26], numbers: &[i32; 26]) -> Pattern
+    requires { ⌜ count (wordsOf (now forms) (now numbers)) letterK ≤ 999 ⌝ }
+    ensures { λ r. ⌜ r ≡ circle (wordsOf (now (forms .entry)) (now (numbers .entry))) ⌝ }
 {
-    let i = word_at(w, b'I');
-    let j = word_at(w, b'J');
-    let k = word_at(w, b'K');
+    let i = word_at(forms, numbers, b'I');
+    let j = word_at(forms, numbers, b'J');
+    let k = word_at(forms, numbers, b'K');
     let clockwise = is_negative(k);
     let count = count(k);
     Pattern::Circle {
@@ -165,17 +167,17 @@ fn circle_of(w: Words) -> Pattern
 }
 
 // G36, or with vertical G37.
-fn grid_of(w: Words, vertical: bool) -> Pattern
-    requires { ⌜ (count w letterP ≤ 999) × (count w letterK ≤ 999) ⌝ }
-    ensures { λ r. ⌜ r ≡ grid vertical w ⌝ }
+fn grid_of(forms: &[u8; 26], numbers: &[i32; 26], vertical: bool) -> Pattern
+    requires { ⌜ (count (wordsOf (now forms) (now numbers)) letterP ≤ 999) × (count (wordsOf (now forms) (now numbers)) letterK ≤ 999) ⌝ }
+    ensures { λ r. ⌜ r ≡ grid vertical (wordsOf (now (forms .entry)) (now (numbers .entry))) ⌝ }
 {
-    let i = word_at(w, b'I');
-    let j = word_at(w, b'J');
+    let i = word_at(forms, numbers, b'I');
+    let j = word_at(forms, numbers, b'J');
     let pitch = Point {
         x: i.value,
         y: j.value,
     };
-    let steps = steps_of(w);
+    let steps = steps_of(forms, numbers);
     Pattern::Grid {
         vertical,
         pitch,
@@ -184,12 +186,12 @@ fn grid_of(w: Words, vertical: bool) -> Pattern
 }
 
 // A pattern with its T and A.
-fn run_of(w: Words, p: Pattern) -> Block
-    requires { ⌜ (count w letterT ≤ 255) × (count w letterA ≤ 255) ⌝ }
-    ensures { λ r. ⌜ r ≡ run w p ⌝ }
+fn run_of(forms: &[u8; 26], numbers: &[i32; 26], p: Pattern) -> Block
+    requires { ⌜ (count (wordsOf (now forms) (now numbers)) letterT ≤ 255) × (count (wordsOf (now forms) (now numbers)) letterA ≤ 255) ⌝ }
+    ensures { λ r. ⌜ r ≡ run (wordsOf (now (forms .entry)) (now (numbers .entry))) p ⌝ }
 {
-    let tool = small(word_at(w, b'T'));
-    let memory = small(word_at(w, b'A'));
+    let tool = small(word_at(forms, numbers, b'T'));
+    let memory = small(word_at(forms, numbers, b'A'));
     Block::Run(p, tool, memory)
 }
 
@@ -207,42 +209,48 @@ fn m_block(n: u32) -> Block
 }
 
 // What a block of a kind asks for.
-pub fn block_of(w: Words, kind: Kind) -> Block
-    requires { ⌜ Clean w ⌝ }
-    requires { ⌜ isRanged w kind ≡ true ⌝ }
-    ensures { λ r. ⌜ r ≡ blockOf w kind ⌝ }
+pub fn block_of(forms: &[u8; 26], numbers: &[i32; 26], kind: Kind) -> Block
+    requires { ⌜ Clean (wordsOf (now forms) (now numbers)) ⌝ }
+    requires { ⌜ isRanged (wordsOf (now forms) (now numbers)) kind ≡ true ⌝ }
+    ensures { λ r. ⌜ r ≡ blockOf (wordsOf (now (forms .entry)) (now (numbers .entry))) kind ⌝ }
 {
     match kind {
-        Kind::G26 => run_of(w, circle_of(w)),
-        Kind::G28 => run_of(w, line_of(w)),
-        Kind::G29 => run_of(w, arc_of(w)),
-        Kind::G36 => run_of(w, grid_of(w, false)),
-        Kind::G37 => run_of(w, grid_of(w, true)),
+        Kind::G26 => run_of(forms, numbers, circle_of(forms, numbers)),
+        Kind::G28 => run_of(forms, numbers, line_of(forms, numbers)),
+        Kind::G29 => run_of(forms, numbers, arc_of(forms, numbers)),
+        Kind::G36 => run_of(forms, numbers, grid_of(forms, numbers, false)),
+        Kind::G37 => run_of(forms, numbers, grid_of(forms, numbers, true)),
         Kind::G50 => Block::End,
-        Kind::G70 => Block::Move(axes_of(w), small(word_at(w, b'T'))),
-        Kind::G72 => Block::Origin(axes_of(w)),
-        Kind::G75 => Block::Copy(copies_of(w, false)),
-        Kind::G76 => Block::Copy(copies_of(w, true)),
-        Kind::G92 => Block::Machine(point_of(w)),
-        Kind::G93 => Block::Offset(axes_of(w)),
-        Kind::G98 => Block::Place(layout_of(w)),
-        Kind::Position => Block::Punch(axes_of(w), small(word_at(w, b'T'))),
+        Kind::G70 => Block::Move(
+            axes_of(forms, numbers),
+            small(word_at(forms, numbers, b'T')),
+        ),
+        Kind::G72 => Block::Origin(axes_of(forms, numbers)),
+        Kind::G75 => Block::Copy(copies_of(forms, numbers, false)),
+        Kind::G76 => Block::Copy(copies_of(forms, numbers, true)),
+        Kind::G92 => Block::Machine(point_of(forms, numbers)),
+        Kind::G93 => Block::Offset(axes_of(forms, numbers)),
+        Kind::G98 => Block::Place(layout_of(forms, numbers)),
+        Kind::Position => Block::Punch(
+            axes_of(forms, numbers),
+            small(word_at(forms, numbers, b'T')),
+        ),
         Kind::Lone => Block::Read,
-        Kind::LetterM => m_block(size_of(word_at(w, b'M'))),
-        Kind::LetterB => Block::Recall(small(word_at(w, b'B'))),
-        Kind::LetterU => Block::Open(small(word_at(w, b'U'))),
-        Kind::LetterV => Block::Close(small(word_at(w, b'V'))),
-        Kind::LetterW => Block::Call(small(word_at(w, b'W'))),
+        Kind::LetterM => m_block(size_of(word_at(forms, numbers, b'M'))),
+        Kind::LetterB => Block::Recall(small(word_at(forms, numbers, b'B'))),
+        Kind::LetterU => Block::Open(small(word_at(forms, numbers, b'U'))),
+        Kind::LetterV => Block::Close(small(word_at(forms, numbers, b'V'))),
+        Kind::LetterW => Block::Call(small(word_at(forms, numbers, b'W'))),
         Kind::Unknown => Block::Idle,
     }
 }
 
 // The G90 or G91 of a block.
-pub fn measure_of(w: Words) -> Measure
-    ensures { λ r. ⌜ r ≡ measureOf w ⌝ }
+pub fn measure_of(tally: Tally) -> Measure
+    ensures { λ r. ⌜ r ≡ measureOf (wordsFrom [] tally) ⌝ }
 {
-    if w.read {
-        if w.incremental {
+    if tally.read {
+        if tally.incremental {
             Measure::Incremental
         } else {
             Measure::Absolute

@@ -7,55 +7,19 @@ use mathlib.Core.Option.{Option, none, some}
 use Prim.Native.Nat.{ℕ, zero, suc, _+_, _-_, _≤_, _<_}
 use native.Mathlib.Nat.{sub-zero}
 use native.Mathlib.Omega.{arith}
-use lib.Dec.{leb, ltb, eqb}
-use lib.ListN.{length, getD, drop}
+use lib.Dec.{ltb}
+use lib.ListN.{length, drop}
 use borrow.Author.Tests.{ltb-true, ltb-false}
-use Rattle.aries.specs.declared.words.Words.{Words}
-use Rattle.aries.specs.Test.{both, pick}
-use Rattle.aries.specs.Text.{isCapital}
-use Rattle.aries.specs.Words.{Digits, Read, digits, point, wholeWord, pointWord, frontSize, wordFrom, word}
-use Rattle.aries.specs.Words.{noWords, added, gather, words}
+use Rattle.aries.specs.declared.word.Words.{Words}
+use Rattle.aries.specs.Words.{Read, word, noWords, added, gather, words}
 use Rattle.words.proofs.Word.{formed}
 use Rattle.words.proofs.Gathering.{gather-end, gather-none, gather-some, words-start}
 use Rattle.blocks.specs.Clean.{CleanWord, Clean}
 use Rattle.blocks.proofs.Clean.{noWords-clean, written-clean, added-clean}
 
--- ---- one word
-
--- a word, if there is one, is written
-abbrev Written : Option Read → Type 0
-Written o = (r : Read) → o ≡ some r → r .word .written ≡ true
-
-none-written : Written none
-none-written r e = let z : _≡_ {A = ℕ} 0 1 = cc in absurd (omega arith)
-
-some-written : (a : Read) → a .word .written ≡ true → Written (some a)
-some-written a h r e = let q : a ≡ r = cc in subst (λ (x : Read). x .word .written ≡ true) q h
-
-pick-written : (t : Bool) (a b : Option Read) → Written a → Written b → Written (pick t a b)
-pick-written true a b h k = h
-pick-written false a b h k = k
-
--- a word that was read is written
-module _ (bs : List ℕ) (front : ℕ) (whole : Digits) where
-  point-written : (decimals : Digits) → Written (pointWord bs front whole decimals)
-  point-written decimals = pick-written (leb (whole .count) 4) _ none (some-written _ refl) none-written
-
-  from-written : Written (wordFrom bs front whole)
-  from-written =
-      pick-written (both (isCapital (getD bs 0 0)) (leb 1 (whole .count))) _ none
-      (pick-written (eqb (getD bs (front + whole .count) 0) point) _ (wholeWord bs front whole)
-      (point-written (digits 2 0 0 (drop (front + whole .count + 1) bs)))
-      (some-written _ refl))
-      none-written
-
-word-written : (bs : List ℕ) → Written (word bs)
-unfolding word
-word-written bs = from-written bs (frontSize bs) (digits 6 0 0 (drop (frontSize bs) bs))
-
--- and clean
+-- a word that was read is clean
 word-clean : (bs : List ℕ) (r : Read) → word bs ≡ some r → CleanWord (r .word)
-word-clean bs r e = written-clean (r .word) (word-written bs r e) (formed bs r e .small)
+word-clean bs r e = let f = formed bs r e in written-clean (r .word) (f .written) (f .small)
 
 -- ---- all words of a line
 

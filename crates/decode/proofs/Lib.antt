@@ -1,2 +1,4 @@
 pub mod CleanWords
+pub mod CloseLines
 pub mod Outcomes
+pub mod Judging

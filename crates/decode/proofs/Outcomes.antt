@@ -4,7 +4,7 @@ use mathlib.Core.Path.{_≡_}
 use mathlib.Core.List.{List}
 use mathlib.Core.Option.{none, some}
 use Prim.Native.Nat.{ℕ}
-use Rattle.aries.specs.declared.words.Words.{Words}
+use Rattle.aries.specs.declared.word.Words.{Words}
 use Rattle.aries.specs.Outcome.{refused}
 use Rattle.aries.specs.Words.{words}
 use Rattle.aries.specs.Blocks.{decode}

@@ -1,15 +1,16 @@
--- Laws of `added`: its four cases.
+-- Laws of `added`: its four cases, and the words by letter.
 -- Assumes nothing.
-use mathlib.Core.Path.{_≡_}
+use mathlib.Core.Path.{_≡_, refl, sym, ap, _∙_}
 use mathlib.Core.Bool.{Bool, true, false}
 use Prim.Native.Nat.{ℕ, _+_, _≤_}
 use native.Mathlib.Omega.{arith}
 use lib.Dec.{eqb}
-use borrow.Author.Tests.{eq-eqb, ne-eqb}
-use Rattle.aries.specs.declared.words.Word.{Word}
-use Rattle.aries.specs.declared.words.Words.{Words}
+use lib.ListN.{set}
+use borrow.Author.Tests.{eq-eqb, ne-eqb, eqb-true, eqb-false}
+use Rattle.aries.specs.declared.word.Word.{Word}
+use Rattle.aries.specs.declared.word.Words.{Words}
 use Rattle.aries.specs.Test.{pick}
-use Rattle.aries.specs.Letters.{letterG, letterN}
+use Rattle.aries.specs.Letters.{letterG, letterN, indexOf}
 use Rattle.aries.specs.Words.{isReadingCode, withReading, withCode, withNumber, withLetter, added}
 
 module _ (w : Words) (letter : ℕ) (v : Word) where
@@ -42,3 +43,23 @@ added-others w letter v = go (eqb letter letterG) (isReadingCode v) (eqb letter 
     go true false n = omega arith
     go false r true = omega arith
     go false r false = omega arith
+
+module _ (w : Words) (letter : ℕ) (v : Word) where
+  -- a G is not kept by letter
+  pub letters-g : letter ≡ letterG → added w letter v .letters ≡ w .letters
+  letters-g g = go (isReadingCode v) refl
+    where
+      go : (r : Bool) → isReadingCode v ≡ r → added w letter v .letters ≡ w .letters
+      go true e = ap (λ (x : Words). x .letters) (added-reading w letter v g e)
+      go false e = ap (λ (x : Words). x .letters) (added-code w letter v g e)
+
+  -- every other word is
+  pub letters-other : (letter ≡ letterG → ⊥) → added w letter v .letters ≡ set (w .letters) (indexOf letter) v
+  letters-other g = go (eqb letter letterN) refl
+    where
+      go : (n : Bool) → eqb letter letterN ≡ n → added w letter v .letters ≡ set (w .letters) (indexOf letter) v
+      go true e =
+          let n : letter ≡ letterN = eqb-true letter letterN e in
+          ap (λ (x : Words). x .letters) (added-number w letter v n)
+          ∙ ap (λ (k : ℕ). set (w .letters) (indexOf k) v) (sym n)
+      go false e = ap (λ (x : Words). x .letters) (added-letter w letter v g (eqb-false letter letterN e))

@@ -1,36 +1,20 @@
--- Laws of `gather`: its steps at a place of a line, and what the words of a line keep.
+-- Laws of `gather`: its steps at a place of a line, and what the code answers of it.
 -- Assumes nothing.
-use mathlib.Core.Path.{_≡_, refl, sym, ap, _∙_, subst}
-use mathlib.Core.Bool.{Bool, true, false}
+use mathlib.Core.Path.{_≡_, refl, sym, ap, _∙_}
+use mathlib.Core.Bool.{true, false}
 use mathlib.Core.List.{List, [], _∷_}
 use mathlib.Core.Option.{Option, none, some}
 use Prim.Native.Nat.{ℕ, zero, suc, _+_, _-_, _≤_, _<_}
 use native.Mathlib.Nat.{not-suc-le-zero}
 use native.Mathlib.Omega.{arith}
-use lib.Dec.{eqb, lit≤}
-use lib.IntN.{natAbs}
-use lib.ListN.{length, drop, getD, set, replicate, length-set, drop-of-length-le, length-drop}
+use lib.IntN.{ℤ}
+use lib.ListN.{length, drop, getD, drop-of-length-le, length-drop}
 use lib.Seq.{drop-cons, drop-drop}
-use Rattle.aries.specs.declared.words.Word.{Word}
-use Rattle.aries.specs.declared.words.Words.{Words}
-use Rattle.aries.specs.Test.{pick}
-use Rattle.aries.specs.Letters.{letterG, letterN, indexOf}
-use Rattle.aries.specs.Words.{
-  Read,
-  word,
-  noWord,
-  noWords,
-  isReadingCode,
-  withReading,
-  withCode,
-  withNumber,
-  withLetter,
-  added,
-  gather,
-  words,
-}
-use Rattle.words.specs.Gathering.{Gathers, Limited, isSome}
-use Rattle.words.specs.declared.Gathered.{Gathered}
+use Rattle.aries.specs.declared.word.Words.{Words}
+use Rattle.aries.specs.Words.{Read, word, noWords, added, gather, words}
+use Rattle.words.specs.Gathering.{Gathers, isSome}
+use Rattle.words.specs.declared.Tally.{Tally}
+use Rattle.words.specs.Keeping.{wordsWith}
 use Rattle.words.proofs.Word.{Formed, formed}
 
 -- ---- one step
@@ -127,109 +111,30 @@ pub words-start : (bytes : List ℕ) → gather (length bytes) noWords bytes ≡
 unfolding words
 words-start bytes = refl
 
--- the code's answer where one has not the form
-pub gathers-none :
-    (bytes : List ℕ) (w : Words) → words bytes ≡ none → Gathers bytes (record { formed = false; words = w })
-gathers-none bytes w e =
-    record { formed = rw e; given = λ v f. let z : _≡_ {A = ℕ} 0 1 = cc in absurd (omega arith) }
+module _ (bytes : List ℕ) (r : Tally) (forms : List ℕ) (numbers : List ℤ) where
+  -- the code's answer where one has not the form
+  pub gathers-none : words bytes ≡ none → r .formed ≡ false → Gathers bytes r forms numbers
+  gathers-none e f =
+      record { formed = f ∙ rw e; given = λ v g. let z : _≡_ {A = ℕ} 0 1 = cc in absurd (omega arith) }
 
--- and where all have it
-pub gathers-some :
-    (bytes : List ℕ) (w : Words) → words bytes ≡ some w → Gathers bytes (record { formed = true; words = w })
-gathers-some bytes w e = record { formed = rw e; given = λ v f. cc }
+  -- and where all have it
+  pub gathers-some :
+      words bytes ≡ some (wordsWith forms numbers r) → r .formed ≡ true → Gathers bytes r forms numbers
+  gathers-some e f = record { formed = f ∙ rw e; given = λ v g. cc }
 
--- ---- what the code's answer says
+  module _ (g : Gathers bytes r forms numbers) where
+    -- all words have their form: these are they
+    pub gathered-words : r .formed ≡ true → words bytes ≡ some (wordsWith forms numbers r)
+    gathered-words t = go (words bytes) refl
+      where
+        go : (o : Option Words) → words bytes ≡ o → words bytes ≡ some (wordsWith forms numbers r)
+        go none e = let z : isSome (words bytes) ≡ true = sym (g .formed) ∙ t in cc
+        go (some w) e = e ∙ ap some (sym (g .given w e))
 
-module _ (bytes : List ℕ) (r : Gathered) (g : Gathers bytes r) where
-  -- all words have their form: these are they
-  pub gathered-words : r .formed ≡ true → words bytes ≡ some (r .words)
-  gathered-words t = go (words bytes) refl
-    where
-      go : (o : Option Words) → words bytes ≡ o → words bytes ≡ some (r .words)
-      go none e = let z : isSome (words bytes) ≡ true = sym (g .formed) ∙ t in cc
-      go (some w) e = e ∙ ap some (sym (g .given w e))
-
-  -- one of them has not
-  pub gathered-none : r .formed ≡ false → words bytes ≡ none
-  gathered-none t = go (words bytes) refl
-    where
-      go : (o : Option Words) → words bytes ≡ o → words bytes ≡ none
-      go none e = e
-      go (some w) e = let z : isSome (words bytes) ≡ false = sym (g .formed) ∙ t in cc
-
--- ---- the words of a line are limited
-
--- a value put in its place
-set-limited :
-    (l : List Word) (i k : ℕ) (v : Word) → natAbs (v .value) ≤ 999999 → natAbs (getD l k noWord .value) ≤ 999999
-    → natAbs (getD (set l i v) k noWord .value) ≤ 999999
-set-limited [] i k v h old = old
-set-limited (x ∷ l) zero zero v h old = h
-set-limited (x ∷ l) zero (suc k) v h old = old
-set-limited (x ∷ l) (suc i) zero v h old = old
-set-limited (x ∷ l) (suc i) (suc k) v h old = set-limited l i k v h old
-
-pick-limited : (t : Bool) (a b : Words) → Limited a → Limited b → Limited (pick t a b)
-pick-limited true a b h k = h
-pick-limited false a b h k = k
-
--- one word more
-pub added-limited :
-    (w : Words) (letter : ℕ) (v : Word) → Limited w → natAbs (v .value) ≤ 999999 → Limited (added w letter v)
-unfolding added
-added-limited w letter v h s =
-    pick-limited (eqb letter letterG) (pick (isReadingCode v) (withReading w v) (withCode w v)) _
-    (pick-limited (isReadingCode v) (withReading w v) (withCode w v)
-    (record { values = h .values; code = h .code; places = h .places })
-    (record { values = h .values; code = s; places = h .places }))
-    (pick-limited (eqb letter letterN) (withNumber w v) (withLetter w letter v)
-    (record { values = values (indexOf letterN); code = h .code; places = places (indexOf letterN) })
-    (record { values = values (indexOf letter); code = h .code; places = places (indexOf letter) }))
-  where
-    values : (i k : ℕ) → natAbs (getD (set (w .letters) i v) k noWord .value) ≤ 999999
-    values i k = set-limited (w .letters) i k v s (h .values k)
-
-    places : (i : ℕ) → length (set (w .letters) i v) ≡ 26
-    places i = length-set (w .letters) i v ∙ h .places
-
--- no words: every place is empty
-no-word-at : (n k : ℕ) → getD (replicate n noWord) k noWord ≡ noWord
-no-word-at zero k = refl
-no-word-at (suc n) zero = refl
-no-word-at (suc n) (suc k) = no-word-at n k
-
-none-limited : Limited noWords
-none-limited =
-    record {
-      values = λ k. subst (λ (x : Word). natAbs (x .value) ≤ 999999) (sym (no-word-at 26 k)) (lit≤ tt);
-      code = lit≤ tt;
-      places = refl;
-    }
-
--- so many words more
-abbrev Keeps : ℕ → Type 0
-Keeps n = (w : Words) (bs : List ℕ) (v : Words) → Limited w → gather n w bs ≡ some v → Limited v
-
-keeps-zero : Keeps zero
-keeps-zero w [] v h e = let q : w ≡ v = cc (gather-nil zero w) in subst Limited q h
-keeps-zero w (b ∷ bs) v h e = let z : _≡_ {A = ℕ} 0 1 = cc (gather-out w b bs) in absurd (omega arith)
-
-keeps-suc : (n : ℕ) → Keeps n → Keeps (suc n)
-keeps-suc n rest w [] v h e = let q : w ≡ v = cc (gather-nil (suc n) w) in subst Limited q h
-keeps-suc n rest w (b ∷ bs) v h e = go (word (b ∷ bs)) refl
-  where
-    go : (o : Option Read) → word (b ∷ bs) ≡ o → Limited v
-    go none f = let z : _≡_ {A = ℕ} 0 1 = cc (gather-malformed (suc n) w b bs f) in absurd (omega arith)
-    go (some r) f =
-        rest (added w (r .letter) (r .word)) (drop (r .size) (b ∷ bs)) v
-        (added-limited w (r .letter) (r .word) h (formed (b ∷ bs) r f .small))
-        (sym (gather-word n w b bs r f) ∙ e)
-
-gather-limited : (n : ℕ) → Keeps n
-gather-limited zero = keeps-zero
-gather-limited (suc n) = keeps-suc n (gather-limited n)
-
--- all words of a line
-pub words-limited : (bs : List ℕ) (w : Words) → words bs ≡ some w → Limited w
-unfolding words
-words-limited bs w e = gather-limited (length bs) noWords bs w none-limited e
+    -- one of them has not
+    pub gathered-none : r .formed ≡ false → words bytes ≡ none
+    gathered-none t = go (words bytes) refl
+      where
+        go : (o : Option Words) → words bytes ≡ o → words bytes ≡ none
+        go none e = e
+        go (some w) e = let z : isSome (words bytes) ≡ false = sym (g .formed) ∙ t in cc

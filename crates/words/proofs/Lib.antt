@@ -3,4 +3,5 @@ pub mod Bytes
 pub mod Numerals
 pub mod Word
 pub mod Added
+pub mod Keeping
 pub mod Gathering

@@ -12,8 +12,8 @@ use lib.IntN.{natAbs}
 use lib.ListN.{length, getD, drop, length-drop}
 use lib.Seq.{getD-drop, drop-drop}
 use borrow.Author.Tests.{ne-eqb, le-leb, lt-leb, leb-true, eqb-true}
-use Rattle.aries.specs.declared.words.Word as written
-use Rattle.aries.specs.declared.words.Reading.the-variants.{Word, Malformed}
+use Rattle.aries.specs.declared.word.Word as written
+use Rattle.aries.specs.declared.word.Reading.the-variants.{Word, Malformed}
 use Rattle.aries.specs.Test.{both, pick}
 use Rattle.aries.specs.Text.{isCapital}
 use Rattle.aries.specs.Words.{Digits, Read, digits, isSign, minus, point, hundredths, wordOf, word}
@@ -177,6 +177,7 @@ pub record Formed (bs : List ℕ) (r : Read) : Type 0 where
   pub some-bytes : 0 < r .size
   pub inside : r .size ≤ length bs
   pub small : natAbs (r .word .value) ≤ 999999
+  pub written : r .word .written ≡ true
 
 module _ (bs : List ℕ) where
   -- the parts of the word at the front
@@ -231,6 +232,7 @@ module _ (bs : List ℕ) where
           some-bytes = omega arith;
           inside = whole-fits;
           small = rw (abs-withSign (eqb (getD bs 1 0) minus) (whole .value)) (omega arith);
+          written = refl;
         }
 
     module _ (p : stop ≡ point) (few : whole .count ≤ 4) where
@@ -254,6 +256,7 @@ module _ (bs : List ℕ) where
             some-bytes = omega arith;
             inside = decimals-fit;
             small = rw (abs-withSign (eqb (getD bs 1 0) minus) (hundredths whole decimals)) (omega arith);
+            written = refl;
           }
 
   letter-is : both (isCapital (getD bs 0 0)) (leb 1 (whole .count)) ≡ true → isCapital (getD bs 0 0) ≡ true

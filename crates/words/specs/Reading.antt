@@ -1,8 +1,8 @@
 -- What reading digits and reading a word answer.
 use mathlib.Core.Option.{Option, none, some}
 use Prim.Native.Nat.{ℕ, _+_}
-use Rattle.aries.specs.declared.words.Reading.{Reading}
-use Rattle.aries.specs.declared.words.Reading.the-variants.{Word, Malformed}
+use Rattle.aries.specs.declared.word.Reading.{Reading}
+use Rattle.aries.specs.declared.word.Reading.the-variants.{Word, Malformed}
 use Rattle.aries.specs.Words.{Digits, Read}
 use Rattle.words.specs.declared.Digits as code
 

@@ -1,25 +1,23 @@
 // The words of a block: digits, a word, and all words of a line by their letters.
+ghost use mathlib.Core.List.{[]};
 ghost use mathlib.Core.Path.{_≡_};
-ghost use mathlib.Core.Bool.{true};
 ghost use Prim.Native.Nat.{_+_, _*_, _^_, _≤_, _<_};
 ghost use lib.Dec.{eqb};
-ghost use lib.ListN.{length, drop, getD};
+ghost use lib.IntN.{pos};
+ghost use lib.ListN.{length, drop, getD, replicate};
 ghost use Rattle.aries.specs.Test.{both, either, within, pick};
-ghost use Rattle.aries.specs.Letters.{letterA, letterG, letterN};
+ghost use Rattle.aries.specs.Letters.{letterA};
 ghost use Rattle.aries.specs.Text.{isCapital, isDigit};
 ghost use Rattle.aries.specs.Words.{digits, isSign, word, wordOf, minus};
 ghost use Rattle.aries.specs.Words.{isPlain, isReadingCode, isPatternCode};
-ghost use Rattle.aries.specs.Words.{noWords, withReading, withCode, withNumber, withLetter, added};
+ghost use Rattle.aries.specs.Words.{noWord, withReading, withCode, withNumber, withLetter, added};
 ghost use Rattle.words.specs.Gathering.{Gathers};
+ghost use Rattle.words.specs.Keeping.{wordIn, formIn, wordsFrom, retold, Tells};
 ghost use Rattle.words.specs.Reading.{held, readingAt};
-use aries::words::Reading;
-use aries::words::Word;
-use aries::words::Words;
+use aries::word::Reading;
+use aries::word::Word;
 use signed::size;
 use signed::with_sign;
-
-// The place of N in the alphabet, A being 0.
-const INDEX_OF_N: usize = 13;
 
 // Digits that were read: their value and how many they are.
 pub struct Digits {
@@ -182,37 +180,52 @@ fn is_pattern_code(code: u32) -> bool
     }
 }
 
-// The words with one of G90, G91.
-fn with_reading(mut words: Words, word: Word) -> Words
-    ensures { λ r. ⌜ r ≡ withReading words word ⌝ }
-{
-    words.misplaced = is_either(words.misplaced, words.read);
-    words.begun = true;
-    words.read = true;
-    words.incremental = size(word.value) == 91;
-    words
+// What is said of the words of a block besides those that are kept by letter.
+pub struct Tally {
+    // every word has its form
+    pub formed: bool,
+    // how many words there are besides N and G
+    pub others: usize,
+    // some word has been read
+    pub begun: bool,
+    pub coded: bool,
+    pub code: u32,
+    pub read: bool,
+    pub incremental: bool,
+    // a letter stands twice, a code beside another one, or N or A out of its place
+    pub misplaced: bool,
 }
 
-// The words with another G.
-fn with_code(mut words: Words, word: Word) -> Words
-    ensures { λ r. ⌜ r ≡ withCode words word ⌝ }
+// The tally with one of G90, G91.
+fn with_reading(mut tally: Tally, word: Word) -> Tally
+    ensures { λ r. ⌜ r ≡ retold tally (withReading (wordsFrom [] tally) word) ⌝ }
 {
-    let again = is_either(words.coded, !is_plain(word));
-    words.misplaced = is_either(words.misplaced, again);
-    words.begun = true;
-    words.coded = true;
-    words.code = size(word.value);
-    words
+    tally.misplaced = is_either(tally.misplaced, tally.read);
+    tally.begun = true;
+    tally.read = true;
+    tally.incremental = size(word.value) == 91;
+    tally
 }
 
-// The words with N.
-fn with_number(mut words: Words, word: Word) -> Words
-    ensures { λ r. ⌜ r ≡ withNumber words word ⌝ }
+// The tally with another G.
+fn with_code(mut tally: Tally, word: Word) -> Tally
+    ensures { λ r. ⌜ r ≡ retold tally (withCode (wordsFrom [] tally) word) ⌝ }
 {
-    words.misplaced = is_either(words.misplaced, words.begun);
-    words.begun = true;
-    words.letters[INDEX_OF_N] = word;
-    words
+    let again = is_either(tally.coded, !is_plain(word));
+    tally.misplaced = is_either(tally.misplaced, again);
+    tally.begun = true;
+    tally.coded = true;
+    tally.code = size(word.value);
+    tally
+}
+
+// The tally with N.
+fn with_number(mut tally: Tally) -> Tally
+    ensures { λ r. ⌜ r ≡ retold tally (withNumber (wordsFrom [] tally) noWord) ⌝ }
+{
+    tally.misplaced = is_either(tally.misplaced, tally.begun);
+    tally.begun = true;
+    tally
 }
 
 // Whether a letter is an A that stands behind the G of a pattern.
@@ -225,57 +238,66 @@ fn is_late(letter: u8, coded: bool, code: u32) -> bool
     if coded { is_pattern_code(code) } else { false }
 }
 
-// The words with a letter other than G and N.
-fn with_letter(mut words: Words, letter: u8, word: Word) -> Words
-    requires { ⌜ (isCapital letter ≡ true) × (words .others + 1 < 2 ^ 64) ⌝ }
-    ensures { λ r. ⌜ r ≡ withLetter words letter word ⌝ }
+// The tally with a letter other than G and N; before: it stands in the block already.
+fn with_letter(mut tally: Tally, letter: u8, before: bool) -> Tally
+    requires { ⌜ tally .others + 1 < 2 ^ 64 ⌝ }
+    ensures { λ r. ⌜ Tells tally letter before (λ w. withLetter w letter noWord) r ⌝ }
 {
-    let index = (letter - b'A') as usize;
-    let old = words.letters[index];
-    let late = is_late(letter, words.coded, words.code);
-    words.misplaced = is_either(words.misplaced, is_either(old.written, late));
-    words.begun = true;
-    words.others = words.others + 1;
-    words.letters[index] = word;
-    words
+    let late = is_late(letter, tally.coded, tally.code);
+    tally.misplaced = is_either(tally.misplaced, is_either(before, late));
+    tally.begun = true;
+    tally.others = tally.others + 1;
+    tally
 }
 
-// The words of a block with one more.
-pub fn add(words: Words, letter: u8, word: Word) -> Words
-    requires { ⌜ (isCapital letter ≡ true) × (words .others + 1 < 2 ^ 64) ⌝ }
-    ensures { λ r. ⌜ r ≡ added words letter word ⌝ }
+// The tally with one word more; before: its letter stands in the block already.
+fn add(tally: Tally, letter: u8, word: Word, before: bool) -> Tally
+    requires { ⌜ tally .others + 1 < 2 ^ 64 ⌝ }
+    ensures { λ r. ⌜ Tells tally letter before (λ w. added w letter word) r ⌝ }
 {
     if letter == b'G' {
         if is_reading_code(word) {
-            return with_reading(words, word);
+            return with_reading(tally, word);
         }
-        return with_code(words, word);
+        return with_code(tally, word);
     }
     if letter == b'N' {
-        return with_number(words, word);
+        return with_number(tally);
     }
-    with_letter(words, letter, word)
+    with_letter(tally, letter, before)
 }
 
-// Whether a letter is G or N, whose words have rules of their own.
-fn is_apart(letter: u8) -> bool
-    ensures { λ r. ⌜ r ≡ either (eqb letter letterG) (eqb letter letterN) ⌝ }
+// The form of a word that is written: 1, with a sign 2, with a point 3, with both 4.
+fn form_of(word: Word) -> u8
+    ensures { λ r. ⌜ r ≡ formIn word ⌝ }
 {
-    is_either(letter == b'G', letter == b'N')
+    if word.pointed {
+        if word.signed { 4 } else { 3 }
+    } else {
+        if word.signed { 2 } else { 1 }
+    }
 }
 
-// No words yet.
-fn no_words() -> Words
-    ensures { λ r. ⌜ r ≡ noWords ⌝ }
+// The word with a form and a number; with 0 for its form it is absent.
+pub fn word_in(form: u8, number: i32) -> Word
+    ensures { λ r. ⌜ r ≡ wordIn form number ⌝ }
 {
-    let none = Word {
-        written: false,
-        signed: false,
-        pointed: false,
-        value: 0,
-    };
-    Words {
-        letters: [none; 26],
+    Word {
+        written: 0 < form,
+        signed: (form == 2) | (form == 4),
+        pointed: 3 <= form,
+        value: number,
+    }
+}
+
+// The words of a block, up to the first that has not its form. Those that are kept by letter are written to two lists
+// from A to Z: the form of each, 0 where there is none, and its number.
+pub fn read_words(bytes: &[u8], forms: &mut [u8; 26], numbers: &mut [i32; 26]) -> Tally
+    requires { ⌜ (now forms ≡ replicate 26 0) × (now numbers ≡ replicate 26 (pos 0)) ⌝ }
+    ensures { λ r. ⌜ Gathers (now (bytes .entry)) r (now (forms .exit)) (now (numbers .exit)) ⌝ }
+{
+    let mut tally = Tally {
+        formed: true,
         others: 0,
         begun: false,
         coded: false,
@@ -283,49 +305,27 @@ fn no_words() -> Words
         read: false,
         incremental: false,
         misplaced: false,
-    }
-}
-
-// Whether every word of a block has its form, and then the words.
-pub struct Gathered {
-    pub formed: bool,
-    pub words: Words,
-}
-
-// The words of a block, up to the first that has not its form.
-pub fn read_words(bytes: &[u8]) -> Gathered
-    ensures { λ r. ⌜ Gathers (now (bytes .entry)) r ⌝ }
-{
-    let mut words = no_words();
+    };
     let mut at = 0;
     while at < bytes.len() {
         let reading = read_word(bytes, at);
         match reading {
             Reading::Word(letter, word, end) => {
                 at = end;
-                if is_apart(letter) {
-                    words = add(words, letter, word);
+                let index = (letter - b'A') as usize;
+                tally = add(tally, letter, word, 0 < forms[index]);
+                if letter == b'G' {
                     continue;
                 }
-                // as with_letter does, in place: the words are not copied
-                let index = (letter - b'A') as usize;
-                let old = words.letters[index];
-                let late = is_late(letter, words.coded, words.code);
-                words.misplaced = is_either(words.misplaced, is_either(old.written, late));
-                words.begun = true;
-                words.others = words.others + 1;
-                words.letters[index] = word;
+                forms[index] = form_of(word);
+                let number = word.value;
+                numbers[index] = number;
             }
             Reading::Malformed => {
-                return Gathered {
-                    formed: false,
-                    words,
-                };
+                tally.formed = false;
+                return tally;
             }
         }
     }
-    Gathered {
-        formed: true,
-        words,
-    }
+    tally
 }

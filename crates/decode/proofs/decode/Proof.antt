@@ -1,52 +1,69 @@
--- Where the words have not their form it is refusal 4; else they are clean, and the instruction is that of the words.
--- Assumes nothing.
-use mathlib.Core.Path.{_≡_, sym, ap, _∙_}
-use mathlib.Core.Option.{none, some}
-use borrow.Author.Tests.{not-true, not-false}
+-- What was judged, with the block of its kind from the words in the two lists. Assumes nothing.
+use mathlib.Core.Path.{sym, ap}
+use mathlib.Core.List.{List}
+use Prim.Native.Nat.{ℕ}
 use borrow.Author.Needs.{needs}
-use Rattle.aries.specs.Words.{words}
-use Rattle.words.proofs.Gathering.{gathered-words, gathered-none}
+use lib.IntN.{ℤ}
 use Rattle.blocks.specs.Decoding.{decodedOf}
-use Rattle.decode.proofs.CleanWords.{words-clean}
-use Rattle.decode.proofs.Outcomes.{decode-malformed, decode-formed}
+use Rattle.decode.proofs.Judging.{judged-of, judged-refused, judged-block}
 use Rattle.decode.proofs.decode.Statement.{statement}
 use Rattle.decode.proofs.decode.Tie as tie
 
--- one of the words has not its form
-module _ (c : tie.Then1) where
-  missing : words (c .before .before .before .before .args .bytes .now) ≡ none
-  missing =
-      let r = c .before .before .read-words in
-      gathered-none (c .before .before .before .before .args .bytes .now) (r .result) (r .ensures)
-      (not-true (r .result .formed) (c .if1 .taken))
+-- the bytes, and the two lists once they are judged
+module _ (c : tie.After-judge) where
+  abbrev bytes : List ℕ
+  bytes = c .before .before .before .before .args .bytes .now
 
--- all have it
-module _ (c : tie.Else1) where
-  found : words (c .before .before .before .before .args .bytes .now) ≡ some (c .before .before .read-words .result .words)
-  found =
-      let r = c .before .before .read-words in
-      gathered-words (c .before .before .before .before .args .bytes .now) (r .result) (r .ensures)
-      (not-false (r .result .formed) (c .if1 .left))
+  abbrev forms : List ℕ
+  forms = c .judge .last .1 .0
 
-read-words-requires : tie.Need-read-words-requires
-read-words-requires c κs = search needs
+  abbrev numbers : List ℤ
+  numbers = c .judge .last .1 .1 .0
+
+judge-requires : tie.Need-judge-requires
+judge-requires c κs = search needs
+
+enum-known-judged : tie.Need-enum-known-judged
+enum-known-judged c = search needs
+
+block-of-requires : tie.Need-block-of-requires
+block-of-requires c κs =
+    let j = c .before .before .before .before .before in
+    let g = c .before .before .before .judged .given in
+    let h = judged-of (bytes j) (forms j) (numbers j) (j .judge .result) (j .judge .ensures) (g .0 .0) (g .0 .1 .0) (g .1) in
+    (h .1, h .0 .ranged)
+
+enum-known-judged-2 : tie.Need-enum-known-judged-2
+enum-known-judged-2 c = search needs
 
 returns : tie.Need-returns
 returns c =
-    let a = c .before .before .before .before .args in
-    sym (ap decodedOf (decode-malformed (a .bytes .now) (a .line) (missing c)))
-
-instruction-requires : tie.Need-instruction-requires
-instruction-requires c κs =
-    let a = c .before .before .before .before .before .args in
-    words-clean (a .bytes .now) (c .before .before .before .read-words .result .words) (found (c .before))
+    let j = c .before .before .before .before .before .before in
+    let g = c .before .before .before .before .judged .given in
+    sym
+    (ap decodedOf
+    (judged-block (bytes j) (forms j) (numbers j) (j .judge .result) (j .judge .ensures) (g .0 .0) (g .0 .1 .0)
+    (c .block-of .result)
+    (j .before .before .before .before .args .line)
+    (g .1)
+    (c .block-of .ensures)))
 
 returns-2 : tie.Need-returns-2
 returns-2 c =
-    let a = c .before .before .before .before .before .before .args in
-    let w = c .before .before .before .before .read-words .result .words in
-    c .instruction .ensures
-    ∙ sym (ap decodedOf (decode-formed (a .bytes .now) (a .line) w (found (c .before .before))))
+    let j = c .before .before .before in
+    let g = c .before .judged2 .given in
+    sym
+    (ap decodedOf
+    (judged-refused (bytes j) (forms j) (numbers j) (j .judge .result) (j .judge .ensures) (g .0 .0) (g .1)
+    (j .before .before .before .before .args .line)))
 
 pub decode-spec : {M : Type 1} → statement M
-decode-spec = tie.close (tie.spec read-words-requires returns instruction-requires returns-2)
+decode-spec =
+    tie.close
+    (tie.spec
+    judge-requires
+    enum-known-judged
+    block-of-requires
+    enum-known-judged-2
+    returns
+    returns-2)

@@ -1,7 +1,8 @@
--- The four cases of `added`. Assumes nothing.
-use mathlib.Core.Path.{sym, _∙_}
-use Rattle.words.proofs.Added.{added-reading, added-code, added-number, added-letter}
+-- By the letter, and for G by its code: the four cases of `added`. Assumes nothing.
+use mathlib.Core.Path.{sym, ap, _∙_}
 use borrow.Author.Needs.{needs}
+use Rattle.words.specs.Keeping.{wordsFrom, retold}
+use Rattle.words.proofs.Added.{added-reading, added-code, added-number, added-letter}
 use Rattle.words.proofs.add.Statement.{statement}
 use Rattle.words.proofs.add.Tie as tie
 
@@ -14,10 +15,14 @@ with-reading-requires c κs = search needs
 returns : tie.Need-returns
 returns c =
     let a = c .before .before .before .before .args in
-    c .with-reading .ensures
-    ∙ sym
-    (added-reading (a .words) (a .letter) (a .word) (c .before .before .before .if1 .taken)
-    (sym (c .before .before .is-reading-code .ensures) ∙ c .before .if2 .taken))
+    record {
+      told = λ letters b.
+          c .with-reading .ensures
+          ∙ ap (retold (a .tally))
+          (sym
+          (added-reading (wordsFrom letters (a .tally)) (a .letter) (a .word) (c .before .before .before .if1 .taken)
+          (sym (c .before .before .is-reading-code .ensures) ∙ c .before .if2 .taken)));
+    }
 
 with-code-requires : tie.Need-with-code-requires
 with-code-requires c κs = search needs
@@ -25,10 +30,14 @@ with-code-requires c κs = search needs
 returns-2 : tie.Need-returns-2
 returns-2 c =
     let a = c .before .before .before .before .args in
-    c .with-code .ensures
-    ∙ sym
-    (added-code (a .words) (a .letter) (a .word) (c .before .before .before .if1 .taken)
-    (sym (c .before .before .is-reading-code .ensures) ∙ c .before .if2 .left))
+    record {
+      told = λ letters b.
+          c .with-code .ensures
+          ∙ ap (retold (a .tally))
+          (sym
+          (added-code (wordsFrom letters (a .tally)) (a .letter) (a .word) (c .before .before .before .if1 .taken)
+          (sym (c .before .before .is-reading-code .ensures) ∙ c .before .if2 .left)));
+    }
 
 with-number-requires : tie.Need-with-number-requires
 with-number-requires c κs = search needs
@@ -36,7 +45,12 @@ with-number-requires c κs = search needs
 returns-3 : tie.Need-returns-3
 returns-3 c =
     let a = c .before .before .before .args in
-    c .with-number .ensures ∙ sym (added-number (a .words) (a .letter) (a .word) (c .before .if3 .taken))
+    record {
+      told = λ letters b.
+          c .with-number .ensures
+          ∙ ap (retold (a .tally))
+          (sym (added-number (wordsFrom letters (a .tally)) (a .letter) (a .word) (c .before .if3 .taken)));
+    }
 
 with-letter-requires : tie.Need-with-letter-requires
 with-letter-requires c κs = search needs
@@ -44,8 +58,14 @@ with-letter-requires c κs = search needs
 returns-4 : tie.Need-returns-4
 returns-4 c =
     let a = c .before .before .before .args in
-    c .with-letter .ensures
-    ∙ sym (added-letter (a .words) (a .letter) (a .word) (c .before .before .if1 .left) (c .before .if3 .left))
+    record {
+      told = λ letters b.
+          c .with-letter .ensures .told letters b
+          ∙ ap (retold (a .tally))
+          (sym
+          (added-letter (wordsFrom letters (a .tally)) (a .letter) (a .word) (c .before .before .if1 .left)
+          (c .before .if3 .left)));
+    }
 
 pub add-spec : {M : Type 1} → statement M
 add-spec =

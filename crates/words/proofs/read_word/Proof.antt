@@ -8,8 +8,8 @@ use borrow.Author.Needs.{needs}
 use borrow.Author.Tests.{not-true, not-false}
 use lib.Dec.{eqb, lit≤}
 use lib.ListN.{length, getD}
-use Rattle.aries.specs.declared.words.Word.{Word}
-use Rattle.aries.specs.declared.words.Reading.the-variants as Reading
+use Rattle.aries.specs.declared.word.Word.{Word}
+use Rattle.aries.specs.declared.word.Reading.the-variants as Reading
 use Rattle.aries.specs.Text.{isCapital}
 use Rattle.aries.specs.Words.{isSign, minus, point, wordOf}
 use Rattle.words.proofs.Bytes.{from-inside}

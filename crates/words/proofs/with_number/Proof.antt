@@ -6,11 +6,8 @@ use Rattle.words.proofs.with_number.Tie as tie
 is-either-requires : tie.Need-is-either-requires
 is-either-requires c κs = search needs
 
-element-set-from-word : tie.Need-element-set-from-word
-element-set-from-word c = search needs
-
 returns : tie.Need-returns
 returns c = simp (c .is-either .ensures)
 
 pub with-number-spec : {M : Type 1} → statement M
-with-number-spec = tie.close (tie.spec is-either-requires element-set-from-word returns)
+with-number-spec = tie.close (tie.spec is-either-requires returns)

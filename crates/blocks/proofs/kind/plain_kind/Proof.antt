@@ -2,48 +2,54 @@
 use mathlib.Core.Path.{_≡_, sym, _∙_}
 use mathlib.Core.Bool.{true, false}
 use borrow.Author.Needs.{needs}
+use Rattle.aries.specs.declared.word.Words.{Words}
+use Rattle.words.specs.Keeping.{wordsOf}
 use Rattle.aries.specs.Letters.{letterM, letterB, letterU, letterV, letterW, letterX, letterY}
 use Rattle.aries.specs.Test.{either}
 use Rattle.aries.specs.Words.{has}
 use Rattle.blocks.proofs.kind.plain_kind.Statement.{statement}
 use Rattle.blocks.proofs.kind.plain_kind.Tie as tie
 
+-- the words that are at hand
+abbrev all-words : tie.Start → Words
+all-words s = wordsOf (s .args .forms .now) (s .args .numbers .now)
+
 -- a letter stands there, or not
 
-m-there : (c : tie.Then1) → has (c .before .before .args .w) letterM ≡ true
+m-there : (c : tie.Then1) → has (all-words (c .before .before)) letterM ≡ true
 m-there c = sym (c .before .has .ensures) ∙ c .if1 .taken
 
-no-m : (c : tie.Else1) → has (c .before .before .args .w) letterM ≡ false
+no-m : (c : tie.Else1) → has (all-words (c .before .before)) letterM ≡ false
 no-m c = sym (c .before .has .ensures) ∙ c .if1 .left
 
-b-there : (c : tie.Then2) → has (c .before .before .before .before .args .w) letterB ≡ true
+b-there : (c : tie.Then2) → has (all-words (c .before .before .before .before)) letterB ≡ true
 b-there c = sym (c .before .has2 .ensures) ∙ c .if2 .taken
 
-no-b : (c : tie.Else2) → has (c .before .before .before .before .args .w) letterB ≡ false
+no-b : (c : tie.Else2) → has (all-words (c .before .before .before .before)) letterB ≡ false
 no-b c = sym (c .before .has2 .ensures) ∙ c .if2 .left
 
-u-there : (c : tie.Then3) → has (c .before .before .before .before .before .before .args .w) letterU ≡ true
+u-there : (c : tie.Then3) → has (all-words (c .before .before .before .before .before .before)) letterU ≡ true
 u-there c = sym (c .before .has3 .ensures) ∙ c .if3 .taken
 
-no-u : (c : tie.Else3) → has (c .before .before .before .before .before .before .args .w) letterU ≡ false
+no-u : (c : tie.Else3) → has (all-words (c .before .before .before .before .before .before)) letterU ≡ false
 no-u c = sym (c .before .has3 .ensures) ∙ c .if3 .left
 
-v-there : (c : tie.Then4) → has (c .before .before .before .before .before .before .before .before .args .w) letterV ≡ true
+v-there : (c : tie.Then4) → has (all-words (c .before .before .before .before .before .before .before .before)) letterV ≡ true
 v-there c = sym (c .before .has4 .ensures) ∙ c .if4 .taken
 
-no-v : (c : tie.Else4) → has (c .before .before .before .before .before .before .before .before .args .w) letterV ≡ false
+no-v : (c : tie.Else4) → has (all-words (c .before .before .before .before .before .before .before .before)) letterV ≡ false
 no-v c = sym (c .before .has4 .ensures) ∙ c .if4 .left
 
-w-there : (c : tie.Then5) → has (c .before .before .before .before .before .before .before .before .before .before .args .w) letterW ≡ true
+w-there : (c : tie.Then5) → has (all-words (c .before .before .before .before .before .before .before .before .before .before)) letterW ≡ true
 w-there c = sym (c .before .has5 .ensures) ∙ c .if5 .taken
 
-no-w : (c : tie.Else5) → has (c .before .before .before .before .before .before .before .before .before .before .args .w) letterW ≡ false
+no-w : (c : tie.Else5) → has (all-words (c .before .before .before .before .before .before .before .before .before .before)) letterW ≡ false
 no-w c = sym (c .before .has5 .ensures) ∙ c .if5 .left
 
-axis-there : (c : tie.Then6) → either (has (c .before .before .before .before .before .before .before .before .before .before .before .before .before .args .w) letterX) (has (c .before .before .before .before .before .before .before .before .before .before .before .before .before .args .w) letterY) ≡ true
+axis-there : (c : tie.Then6) → either (has (all-words (c .before .before .before .before .before .before .before .before .before .before .before .before .before)) letterX) (has (all-words (c .before .before .before .before .before .before .before .before .before .before .before .before .before)) letterY) ≡ true
 axis-there c = simp (c .before .before .has6 .ensures, c .before .has7 .ensures) at (c .if6 .taken)
 
-no-axis : (c : tie.Else6) → either (has (c .before .before .before .before .before .before .before .before .before .before .before .before .before .args .w) letterX) (has (c .before .before .before .before .before .before .before .before .before .before .before .before .before .args .w) letterY) ≡ false
+no-axis : (c : tie.Else6) → either (has (all-words (c .before .before .before .before .before .before .before .before .before .before .before .before .before)) letterX) (has (all-words (c .before .before .before .before .before .before .before .before .before .before .before .before .before)) letterY) ≡ false
 no-axis c = simp (c .before .before .has6 .ensures, c .before .has7 .ensures) at (c .if6 .left)
 
 has-requires : tie.Need-has-requires

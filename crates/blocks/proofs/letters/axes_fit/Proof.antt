@@ -4,6 +4,8 @@ use mathlib.Core.List.{[], _∷_}
 use mathlib.Core.Logic.{⊎-elim}
 use native.Mathlib.Omega.{arith}
 use borrow.Author.Needs.{needs}
+use Rattle.aries.specs.declared.word.Words.{Words}
+use Rattle.words.specs.Keeping.{wordsWith}
 use Rattle.aries.specs.Letters.{letterX, letterY}
 use Rattle.aries.specs.Test.{pick}
 use Rattle.aries.specs.Text.{bytes}
@@ -12,8 +14,12 @@ use Rattle.blocks.proofs.Listing.{one-counted}
 use Rattle.blocks.proofs.letters.axes_fit.Statement.{statement}
 use Rattle.blocks.proofs.letters.axes_fit.Tie as tie
 
+-- the words that are at hand
+abbrev all-words : tie.Start → Words
+all-words s = wordsWith (s .args .forms .now) (s .args .numbers .now) (s .args .tally)
+
 -- T counts where it may stand
-free : (c : tie.Joined1) → c .if1 .may ≡ present (c .before .before .before .args .w) (bytes (pick (c .before .before .before .args .tool) "T" ""))
+free : (c : tie.Joined1) → c .if1 .may ≡ present (all-words (c .before .before .before)) (bytes (pick (c .before .before .before .args .tool) "T" ""))
 unfolding bytes
 free c = ⊎-elim (λ u. simp (u .0 .taken) (u .1 ∙ c .before .one .ensures .0)) (λ u. simp (u .0 .left) (u .1)) (c .if1 .came)
 
@@ -29,8 +35,8 @@ add-result c = ⊎-elim (λ u. omega arith) (λ u. omega arith) (c .before .if1 
 returns : tie.Need-returns
 unfolding bytes
 returns c =
-    let a = c .before .before .before .before .before .args in
-    one-counted (a .w) letterX (letterY ∷ []) (bytes (pick (a .tool) "T" "")) (c .before .before .before .before .two .ensures .0) (free (c .before .before))
+    let s = c .before .before .before .before .before in
+    one-counted (all-words s) letterX (letterY ∷ []) (bytes (pick (s .args .tool) "T" "")) (c .before .before .before .before .two .ensures .0) (free (c .before .before))
 
 pub axes-fit-spec : {M : Type 1} → statement M
 axes-fit-spec = tie.close (tie.spec two-requires one-requires add-result returns)

@@ -1,7 +1,7 @@
 -- The word's own mark. Assumes nothing.
 use mathlib.Core.Path.{ap}
 use borrow.Author.Needs.{needs}
-use Rattle.aries.specs.declared.words.Word.{Word}
+use Rattle.aries.specs.declared.word.Word.{Word}
 use Rattle.blocks.proofs.lookup.has.Statement.{statement}
 use Rattle.blocks.proofs.lookup.has.Tie as tie
 

@@ -1,8 +1,7 @@
 -- Three letters, one after the other. Assumes nothing.
-use mathlib.Core.Path.{ap, _∙_}
 use borrow.Author.Needs.{needs}
 use Rattle.aries.specs.Blocks.{whole}
-use Rattle.blocks.specs.Decoding.{passes}
+use Rattle.blocks.proofs.Bounds.{passed}
 use Rattle.blocks.proofs.Tests.{three-tests}
 use Rattle.blocks.proofs.numbers.common_fit.Statement.{statement}
 use Rattle.blocks.proofs.numbers.common_fit.Tie as tie
@@ -27,9 +26,9 @@ whole-requires-3 c κs = search needs
 
 returns : tie.Need-returns
 returns c = three-tests
-    (c .before .before .before .before .whole .ensures ∙ ap (passes (whole 0 9999)) (c .before .before .before .before .before .word-at .ensures))
-    (c .before .before .whole2 .ensures ∙ ap (passes (whole 1 99)) (c .before .before .before .word-at2 .ensures))
-    (c .whole3 .ensures ∙ ap (passes (whole 1 5)) (c .before .word-at3 .ensures))
+    (passed (whole 0 9999) (c .before .before .before .before .whole .ensures) (c .before .before .before .before .before .word-at .ensures))
+    (passed (whole 1 99) (c .before .before .whole2 .ensures) (c .before .before .before .word-at2 .ensures))
+    (passed (whole 1 5) (c .whole3 .ensures) (c .before .word-at3 .ensures))
 
 pub common-fit-spec : {M : Type 1} → statement M
 common-fit-spec =

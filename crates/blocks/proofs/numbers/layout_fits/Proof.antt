@@ -1,8 +1,7 @@
 -- Seven letters, one after the other. Assumes nothing.
-use mathlib.Core.Path.{ap, _∙_}
 use borrow.Author.Needs.{needs}
 use Rattle.aries.specs.Blocks.{notNegative, whole}
-use Rattle.blocks.specs.Decoding.{passes}
+use Rattle.blocks.proofs.Bounds.{passed}
 use Rattle.blocks.proofs.Tests.{seven-tests}
 use Rattle.blocks.proofs.numbers.layout_fits.Statement.{statement}
 use Rattle.blocks.proofs.numbers.layout_fits.Tie as tie
@@ -51,13 +50,13 @@ whole-requires-2 c κs = search needs
 
 returns : tie.Need-returns
 returns c = seven-tests
-    (c .before .before .before .before .before .before .before .before .before .before .before .before .not-negative .ensures ∙ ap (passes notNegative) (c .before .before .before .before .before .before .before .before .before .before .before .before .before .word-at .ensures))
-    (c .before .before .before .before .before .before .before .before .before .before .not-negative2 .ensures ∙ ap (passes notNegative) (c .before .before .before .before .before .before .before .before .before .before .before .word-at2 .ensures))
-    (c .before .before .before .before .before .before .before .before .not-negative3 .ensures ∙ ap (passes notNegative) (c .before .before .before .before .before .before .before .before .before .word-at3 .ensures))
-    (c .before .before .before .before .before .before .not-negative4 .ensures ∙ ap (passes notNegative) (c .before .before .before .before .before .before .before .word-at4 .ensures))
-    (c .before .before .before .before .not-negative5 .ensures ∙ ap (passes notNegative) (c .before .before .before .before .before .word-at5 .ensures))
-    (c .before .before .whole .ensures ∙ ap (passes (whole 0 99)) (c .before .before .before .word-at6 .ensures))
-    (c .whole2 .ensures ∙ ap (passes (whole 0 99)) (c .before .word-at7 .ensures))
+    (passed notNegative (c .before .before .before .before .before .before .before .before .before .before .before .before .not-negative .ensures) (c .before .before .before .before .before .before .before .before .before .before .before .before .before .word-at .ensures))
+    (passed notNegative (c .before .before .before .before .before .before .before .before .before .before .not-negative2 .ensures) (c .before .before .before .before .before .before .before .before .before .before .before .word-at2 .ensures))
+    (passed notNegative (c .before .before .before .before .before .before .before .before .not-negative3 .ensures) (c .before .before .before .before .before .before .before .before .before .word-at3 .ensures))
+    (passed notNegative (c .before .before .before .before .before .before .not-negative4 .ensures) (c .before .before .before .before .before .before .before .word-at4 .ensures))
+    (passed notNegative (c .before .before .before .before .not-negative5 .ensures) (c .before .before .before .before .before .word-at5 .ensures))
+    (passed (whole 0 99) (c .before .before .whole .ensures) (c .before .before .before .word-at6 .ensures))
+    (passed (whole 0 99) (c .whole2 .ensures) (c .before .word-at7 .ensures))
 
 pub layout-fits-spec : {M : Type 1} → statement M
 layout-fits-spec =

@@ -1,9 +1,15 @@
 -- Numbers of six digits can be added (`Bounds`). Assumes nothing.
 use native.Mathlib.Omega.{arith}
 use borrow.Author.Needs.{needs}
+use Rattle.aries.specs.declared.word.Words.{Words}
+use Rattle.words.specs.Keeping.{wordsOf}
 use Rattle.blocks.proofs.Bounds.{size-small}
 use Rattle.blocks.proofs.request.layout_of.Statement.{statement}
 use Rattle.blocks.proofs.request.layout_of.Tie as tie
+
+-- the words that are at hand
+abbrev all-words : tie.Start → Words
+all-words s = wordsOf (s .args .forms .now) (s .args .numbers .now)
 
 point-of-requires : tie.Need-point-of-requires
 point-of-requires c κs = search needs
@@ -26,11 +32,11 @@ word-at-requires-3 c κs = search needs
 size-of-requires-3 : tie.Need-size-of-requires-3
 size-of-requires-3 c κs = search needs
 
-add-t9 : tie.Need-add-t9
-add-t9 c = let a = c .before .before .before .before .before .before .before .args in let clean = c .before .before .before .before .before .before .before .pre .0 in omega (arith, size-small (a .w) 73 (c .before .before .before .before .size-of .result) (c .before .before .before .before .before .word-at .result) clean (c .before .before .before .before .before .word-at .ensures) (c .before .before .before .before .size-of .ensures), size-small (a .w) 68 (c .size-of3 .result) (c .before .word-at3 .result) clean (c .before .word-at3 .ensures) (c .size-of3 .ensures))
-
 add-t10 : tie.Need-add-t10
-add-t10 c = let a = c .before .before .before .before .before .before .before .args in let clean = c .before .before .before .before .before .before .before .pre .0 in omega (arith, size-small (a .w) 74 (c .before .before .size-of2 .result) (c .before .before .before .word-at2 .result) clean (c .before .before .before .word-at2 .ensures) (c .before .before .size-of2 .ensures), size-small (a .w) 68 (c .size-of3 .result) (c .before .word-at3 .result) clean (c .before .word-at3 .ensures) (c .size-of3 .ensures))
+add-t10 c = let s = c .before .before .before .before .before .before .before in let clean = c .before .before .before .before .before .before .before .pre .0 in omega (arith, size-small (all-words s) 73 (c .before .before .before .before .size-of .result) (c .before .before .before .before .before .word-at .result) clean (c .before .before .before .before .before .word-at .ensures) (c .before .before .before .before .size-of .ensures), size-small (all-words s) 68 (c .size-of3 .result) (c .before .word-at3 .result) clean (c .before .word-at3 .ensures) (c .size-of3 .ensures))
+
+add-t11 : tie.Need-add-t11
+add-t11 c = let s = c .before .before .before .before .before .before .before in let clean = c .before .before .before .before .before .before .before .pre .0 in omega (arith, size-small (all-words s) 74 (c .before .before .size-of2 .result) (c .before .before .before .word-at2 .result) clean (c .before .before .before .word-at2 .ensures) (c .before .before .size-of2 .ensures), size-small (all-words s) 68 (c .size-of3 .result) (c .before .word-at3 .result) clean (c .before .word-at3 .ensures) (c .size-of3 .ensures))
 
 steps-of-requires : tie.Need-steps-of-requires
 steps-of-requires c κs = search needs
@@ -49,7 +55,7 @@ layout-of-spec =
     size-of-requires-2
     word-at-requires-3
     size-of-requires-3
-    add-t9
     add-t10
+    add-t11
     steps-of-requires
     returns)

@@ -1,0 +1,86 @@
+-- The two tests in their order (`Decode`). The kind's numbers do not go by the tally, nor the G90 or G91 by the letters
+-- (`Alone`). Assumes nothing.
+use mathlib.Core.Path.{_≡_, refl, sym, _∙_}
+use mathlib.Core.Bool.{true}
+use mathlib.Core.List.{List}
+use borrow.Author.Tests.{not-true, not-false}
+use borrow.Author.Needs.{needs}
+use Rattle.aries.specs.declared.word.Word.{Word}
+use Rattle.aries.specs.declared.word.Words.{Words}
+use Rattle.aries.specs.Blocks.{isListed, isRanged, blockOf}
+use Rattle.words.specs.Keeping.{lettersOf, wordsFrom, noTally}
+use Rattle.blocks.proofs.Alone.{same-ranges, same-measure}
+use Rattle.blocks.proofs.Decode.{not-listed, not-ranged, decoded}
+use Rattle.blocks.proofs.judge.Statement.{statement}
+use Rattle.blocks.proofs.judge.Tie as tie
+
+-- the words at hand
+abbrev by-letter : tie.Start → List Word
+by-letter s = lettersOf (s .args .forms .now) (s .args .numbers .now)
+
+abbrev all-words : tie.Start → Words
+all-words s = wordsFrom (by-letter s) (s .args .tally)
+
+-- past the first test
+listed : (c : tie.Else1) → isListed (all-words (c .before .before .before)) (c .before .before .kind-of .result) ≡ true
+listed c = sym (c .before .is-listed .ensures) ∙ not-false (c .before .is-listed .result) (c .if1 .left)
+
+-- the second test
+by-ranges :
+    (c : tie.After-is-ranged)
+    → c .is-ranged .result ≡ isRanged (all-words (c .before .before .before .before)) (c .before .before .before .kind-of .result)
+by-ranges c =
+    let s = c .before .before .before .before in
+    c .is-ranged .ensures ∙ same-ranges (by-letter s) noTally (s .args .tally) (c .before .before .before .kind-of .result)
+
+kind-of-requires : tie.Need-kind-of-requires
+kind-of-requires c κs = search needs
+
+is-listed-requires : tie.Need-is-listed-requires
+is-listed-requires c κs = search needs
+
+returns : tie.Need-returns
+returns c line =
+    let k = c .before .before .kind-of in
+    not-listed (all-words (c .before .before .before)) line (k .result) (k .ensures)
+    (sym (c .before .is-listed .ensures) ∙ not-true (c .before .is-listed .result) (c .if1 .taken))
+
+is-ranged-requires : tie.Need-is-ranged-requires
+is-ranged-requires c κs = search needs
+
+returns-2 : tie.Need-returns-2
+returns-2 c line =
+    let k = c .before .before .before .before .kind-of in
+    not-ranged (all-words (c .before .before .before .before .before)) line (k .result) (k .ensures) (listed (c .before .before))
+    (sym (by-ranges (c .before)) ∙ not-true (c .before .is-ranged .result) (c .if2 .taken))
+
+measure-of-requires : tie.Need-measure-of-requires
+measure-of-requires c κs = search needs
+
+returns-3 : tie.Need-returns-3
+returns-3 c =
+    let s = c .before .before .before .before .before .before in
+    let k = c .before .before .before .before .before .kind-of in
+    let m = c .measure-of in
+    let ranged : isRanged (all-words s) (k .result) ≡ true =
+    sym (by-ranges (c .before .before)) ∙ not-false (c .before .before .is-ranged .result) (c .before .if2 .left) in
+    record {
+      decoded = λ line.
+          decoded (all-words s) line (k .result) (k .ensures) (listed (c .before .before .before)) ranged (m .result)
+          (blockOf (all-words s) (k .result))
+          (m .ensures ∙ same-measure (by-letter s) (s .args .tally))
+          refl;
+      ranged = ranged;
+    }
+
+pub judge-spec : {M : Type 1} → statement M
+judge-spec =
+    tie.close
+    (tie.spec
+    kind-of-requires
+    is-listed-requires
+    returns
+    is-ranged-requires
+    returns-2
+    measure-of-requires
+    returns-3)

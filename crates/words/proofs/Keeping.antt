@@ -1,0 +1,87 @@
+-- Laws of the words as the code keeps them: a word in its place of both lists, and all words with a tally.
+-- Assumes nothing.
+use mathlib.Core.Path.{_≡_, refl, sym, ap, _∙_}
+use mathlib.Core.Bool.{Bool, true, false}
+use mathlib.Core.List.{List, [], _∷_}
+use Prim.Native.Nat.{ℕ, zero, suc, _<_}
+use native.Mathlib.Nat.{not-suc-le-zero}
+use native.Mathlib.Omega.{arith}
+use lib.IntN.{ℤ, pos}
+use lib.ListN.{length, getD, set, drop, replicate}
+use Rattle.aries.specs.declared.word.Word.{Word}
+use Rattle.aries.specs.Words.{noWord}
+use Rattle.aries.specs.declared.word.Words.{Words}
+use Rattle.words.specs.declared.Tally.{Tally}
+use Rattle.words.specs.Keeping.{wordIn, formIn, firstWords, lettersOf, wordsFrom, retold}
+
+-- ---- one word
+
+abbrev written : Bool → Bool → Bool → ℤ → Word
+written w signed pointed value = record { written = w; signed = signed; pointed = pointed; value = value }
+
+by-marks :
+    (signed pointed : Bool) (value : ℤ)
+    → wordIn (formIn (written true signed pointed value)) value ≡ written true signed pointed value
+by-marks true true value = refl
+by-marks true false value = refl
+by-marks false true value = refl
+by-marks false false value = refl
+
+-- a word that is written is what its form and its number stand for
+pub form-word : (v : Word) → v .written ≡ true → wordIn (formIn v) (v .value) ≡ v
+form-word v e =
+    by-marks (v .signed) (v .pointed) (v .value)
+    ∙ ap (λ (w : Bool). written w (v .signed) (v .pointed) (v .value)) (sym e)
+
+-- ---- the words of two lists
+
+past-first : {A : Type 0} (l : List A) (i : ℕ) (d : A) → getD (drop 1 l) i d ≡ getD l (suc i) d
+past-first [] i d = refl
+past-first (x ∷ l) i d = refl
+
+first-at :
+    (n : ℕ) (forms : List ℕ) (numbers : List ℤ) (i : ℕ) → i < n
+    → getD (firstWords n forms numbers) i noWord ≡ wordIn (getD forms i 0) (getD numbers i (pos 0))
+first-at zero forms numbers i h = absurd (not-suc-le-zero h)
+first-at (suc n) forms numbers zero h = refl
+first-at (suc n) forms numbers (suc i) h =
+    first-at n (drop 1 forms) (drop 1 numbers) i (omega arith)
+    ∙ ap (λ (f : ℕ). wordIn f (getD (drop 1 numbers) i (pos 0))) (past-first forms i 0)
+    ∙ ap (wordIn (getD forms (suc i) 0)) (past-first numbers i (pos 0))
+
+first-set :
+    (n : ℕ) (forms : List ℕ) (numbers : List ℤ) (i form : ℕ) (number : ℤ) → i < length forms → i < length numbers
+    → firstWords n (set forms i form) (set numbers i number) ≡ set (firstWords n forms numbers) i (wordIn form number)
+first-set zero forms numbers i form number h k = refl
+first-set (suc n) [] numbers i form number h k = absurd (not-suc-le-zero h)
+first-set (suc n) (f ∷ forms) [] i form number h k = absurd (not-suc-le-zero k)
+first-set (suc n) (f ∷ forms) (m ∷ numbers) zero form number h k = refl
+first-set (suc n) (f ∷ forms) (m ∷ numbers) (suc i) form number h k =
+    ap (λ (vs : List Word). wordIn f m ∷ vs) (first-set n forms numbers i form number (omega arith) (omega arith))
+
+-- the word at a place
+pub letters-at :
+    (forms : List ℕ) (numbers : List ℤ) (i : ℕ) → i < 26
+    → getD (lettersOf forms numbers) i noWord ≡ wordIn (getD forms i 0) (getD numbers i (pos 0))
+unfolding lettersOf
+letters-at forms numbers i h = first-at 26 forms numbers i h
+
+-- a word is set by its form and its number
+pub letters-set :
+    (forms : List ℕ) (numbers : List ℤ) (i form : ℕ) (number : ℤ) → i < length forms → i < length numbers
+    → lettersOf (set forms i form) (set numbers i number) ≡ set (lettersOf forms numbers) i (wordIn form number)
+unfolding lettersOf
+letters-set forms numbers i form number h k = first-set 26 forms numbers i form number h k
+
+-- none yet
+pub letters-none : lettersOf (replicate 26 0) (replicate 26 (pos 0)) ≡ replicate 26 noWord
+unfolding lettersOf
+letters-none = refl
+
+-- ---- with a tally
+
+-- words from their letters and their tally
+pub words-from :
+    (w : Words) (letters : List Word) (t r : Tally) → letters ≡ w .letters → r ≡ retold t w → wordsFrom letters r ≡ w
+words-from w letters t r e f =
+    ap (wordsFrom letters) f ∙ ap (λ (vs : List Word). wordsFrom vs (retold t w)) e

@@ -1,0 +1,93 @@
+-- The words of a block as the code keeps them: two lists by letter, and a tally of the rest.
+use mathlib.Core.Path.{_≡_}
+use mathlib.Core.Bool.{Bool, true, false}
+use mathlib.Core.List.{List, [], _∷_}
+use Prim.Native.Nat.{ℕ, zero, suc}
+use lib.Dec.{leb, ltb, eqb}
+use lib.IntN.{ℤ, pos}
+use lib.ListN.{getD, drop}
+use Rattle.aries.specs.declared.word.Word.{Word}
+use Rattle.aries.specs.declared.word.Words.{Words}
+use Rattle.aries.specs.Test.{either, pick}
+use Rattle.aries.specs.Words.{has}
+use Rattle.words.specs.declared.Tally.{Tally}
+
+-- ---- by letter
+
+-- the word that a form and a number stand for
+abbrev pub wordIn : ℕ → ℤ → Word
+wordIn form number =
+    record { written = ltb 0 form; signed = either (eqb form 2) (eqb form 4); pointed = leb 3 form; value = number }
+
+-- the form of a word that is written
+abbrev pub formIn : Word → ℕ
+formIn v = pick (v .pointed) (pick (v .signed) 4 3) (pick (v .signed) 2 1)
+
+-- the words that two lists stand for at their first places
+abbrev pub firstWords : ℕ → List ℕ → List ℤ → List Word
+firstWords zero forms numbers = []
+firstWords (suc n) forms numbers =
+    wordIn (getD forms 0 0) (getD numbers 0 (pos 0)) ∷ firstWords n (drop 1 forms) (drop 1 numbers)
+
+-- from A to Z
+unfoldable pub lettersOf : List ℕ → List ℤ → List Word
+lettersOf forms numbers = firstWords 26 forms numbers
+
+-- ---- the rest
+
+-- all words, from those by letter and a tally
+abbrev pub wordsFrom : List Word → Tally → Words
+wordsFrom letters t =
+    record {
+      letters = letters;
+      others = t .others;
+      begun = t .begun;
+      coded = t .coded;
+      code = t .code;
+      read = t .read;
+      incremental = t .incremental;
+      misplaced = t .misplaced;
+    }
+
+-- a tally of other words
+abbrev pub retold : Tally → Words → Tally
+retold t w =
+    record {
+      formed = t .formed;
+      others = w .others;
+      begun = w .begun;
+      coded = w .coded;
+      code = w .code;
+      read = w .read;
+      incremental = w .incremental;
+      misplaced = w .misplaced;
+    }
+
+-- A tally of more words, whatever the letters of those before them, but for one of which it is known whether it stands.
+pub record Tells (t : Tally) (letter : ℕ) (before : Bool) (more : Words → Words) (answer : Tally) : Type 0 where
+  pub told :
+      (letters : List Word) → before ≡ has (wordsFrom letters t) letter → answer ≡ retold t (more (wordsFrom letters t))
+
+-- nothing is said yet
+abbrev pub noTally : Tally
+noTally =
+    record {
+      formed = true;
+      others = 0;
+      begun = false;
+      coded = false;
+      code = 0;
+      read = false;
+      incremental = false;
+      misplaced = false;
+    }
+
+-- ---- all words
+
+-- the words that two lists stand for, with a tally
+abbrev pub wordsWith : List ℕ → List ℤ → Tally → Words
+wordsWith forms numbers t = wordsFrom (lettersOf forms numbers) t
+
+-- the words that two lists stand for, where nothing else is said of them
+abbrev pub wordsOf : List ℕ → List ℤ → Words
+wordsOf forms numbers = wordsWith forms numbers noTally
