@@ -11,18 +11,22 @@ use Rattle.aries.specs.declared.state.Frame.{Frame}
 use Rattle.aries.specs.declared.state.Status.{Status}
 use Rattle.aries.specs.declared.state.Status.the-variants.{Passed, Refused}
 use Rattle.aries.specs.declared.state.Progress.{Progress}
-use Rattle.aries.specs.declared.state.Outcome.{Outcome}
 use Rattle.aries.specs.Outcome.{Out, done, refused}
 use Rattle.aries.specs.Hits.{Made, still, andThen, leaving}
 use Rattle.aries.specs.Judging.{Judging}
-use Rattle.aries.specs.Moves.{_⊕_, punch}
+use Rattle.aries.specs.Moves.{_⊕_, movedTo, punch}
 use Rattle.aries.specs.Patterns.{hole, punches, ending}
-use Rattle.aries.specs.Runs.{Ran, Carried}
-use Rattle.aries.proofs.Runs.{ran-as, ran-refused, ran-still, ran-then, ran-stop, ran-leaving}
+use Rattle.aries.specs.Runs.{Ran}
+use Rattle.aries.proofs.Runs as Runs
+use Rattle.aries.proofs.Runs.{ran-refused, ran-leaving}
 use Rattle.patterns.proofs.Patterns.{ending-hits}
 
 abbrev hitsOf : Progress → ℕ
 hitsOf g = g .hits
+
+-- a progress that has come to another point, with so many hits
+abbrev pub come : Progress → Point → ℕ → Progress
+come g current hits = record { state = movedTo (g .state) current; blocks = g .blocks; hits = hits }
 
 -- a refusal is one, whatever the result would be seen as
 refused-leaving : (f : Progress → Progress) (out : Out (Made Progress)) (left : Progress) (before after : List ℤ) (k number at : ℕ)
@@ -51,42 +55,35 @@ module _ (j : Judging) (f : Frame) (line : ℕ) (p : Pattern) (start : Point) (c
 
   -- whoever carries out what is left from hit k on, from this list and progress, has carried out all
   abbrev pub Leads : List ℤ → Progress → ℕ → List ℤ → Progress → Type 0
-  Leads list₀ g₀ k list g =
-      (status : Status) (left : Progress) (after : List ℤ)
-      → Ran hitsOf status left list after (g .hits) (rest k g)
-      → Ran hitsOf status left list₀ after (g₀ .hits) (punches j f line p start count 0 g₀)
+  Leads list₀ g₀ k list g = Runs.Leads hitsOf list (g .hits) (rest k g) list₀ (g₀ .hits) (punches j f line p start count 0 g₀)
 
   pub leads-start : (list : List ℤ) (g : Progress) → Leads list g 0 list g
-  leads-start list g status left after h = ran-as hitsOf status left list after (g .hits) (ap (λ (n : ℕ). punches j f line p start n 0 g) (sym (sub-zero count))) h
+  leads-start list g =
+      Runs.leads-start hitsOf list (g .hits) (punches j f line p start count 0 g) (ap (λ (n : ℕ). punches j f line p start n 0 g) (sub-zero count))
 
   module _ (list₀ : List ℤ) (g₀ : Progress) (k : ℕ) (list : List ℤ) (g : Progress) (leads : Leads list₀ g₀ k list g) where
-    -- a hit that is made
-    pub leads-turn : (r : Outcome) (list' : List ℤ) → k < count → Carried r list list' (g .hits) (punch j f line (start ⊕ hole p k) g) → r .status ≡ Passed → Leads list₀ g₀ (k + 1) list' (r .progress)
-    leads-turn r list' h made passed status left after then =
-        leads status left after
-        (ran-as hitsOf status left list after (g .hits) (rest-turn k g h)
-        (ran-then hitsOf (punch j f line (start ⊕ hole p k) g) (rest (k + 1)) status (r .progress) left list list' after (g .hits)
-        (subst (λ (s : Status). Ran hitsOf s (r .progress) list list' (g .hits) (punch j f line (start ⊕ hole p k) g)) passed made)
-        then))
+    abbrev whole : Out (Made Progress)
+    whole = punches j f line p start count 0 g₀
 
-    all-refused : (r : Outcome) (list' : List ℤ) (number at : ℕ) → k < count → Carried r list list' (g .hits) (punch j f line (start ⊕ hole p k) g) → r .status ≡ Refused number at → Carried r list₀ list' (g₀ .hits) (punches j f line p start count 0 g₀)
-    all-refused r list' number at h made stopped =
-        leads (r .status) (r .progress) list'
-        (ran-as hitsOf (r .status) (r .progress) list list' (g .hits) (rest-turn k g h)
-        (subst (λ (s : Status). Ran hitsOf s (r .progress) list list' (g .hits) (andThen (punch j f line (start ⊕ hole p k) g) (rest (k + 1)))) (sym stopped)
-        (ran-stop hitsOf (punch j f line (start ⊕ hole p k) g) (rest (k + 1)) (r .progress) (r .progress) list list' list' (g .hits) (g .hits) number at
-        (subst (λ (s : Status). Ran hitsOf s (r .progress) list list' (g .hits) (punch j f line (start ⊕ hole p k) g)) stopped made))))
+    abbrev hit : Out (Made Progress)
+    hit = punch j f line (start ⊕ hole p k) g
+
+    turns : k < count → Runs.Leads hitsOf list (g .hits) (andThen hit (rest (k + 1))) list₀ (g₀ .hits) whole
+    turns h = Runs.leads-as hitsOf list₀ (g₀ .hits) whole list (g .hits) (rest-turn k g h) leads
+
+    -- a hit that is made
+    pub leads-turn : (now : Progress) (list' : List ℤ) → k < count → Ran hitsOf Passed now list list' (g .hits) hit → Leads list₀ g₀ (k + 1) list' now
+    leads-turn now list' h made = Runs.leads-on hitsOf list₀ (g₀ .hits) whole hit (rest (k + 1)) now list list' (g .hits) made (turns h)
 
     -- a hit that is stopped
-    pub leads-refused : (r : Outcome) (list' : List ℤ) (number at : ℕ) → k < count → Carried r list list' (g .hits) (punch j f line (start ⊕ hole p k) g) → r .status ≡ Refused number at → Carried r list₀ list' (g₀ .hits) (leaving (ending p start) (punches j f line p start count 0 g₀))
-    leads-refused r list' number at h made stopped =
-        subst (λ (s : Status). Ran hitsOf s (r .progress) list₀ list' (g₀ .hits) (leaving (ending p start) (punches j f line p start count 0 g₀))) (sym stopped)
-        (refused-leaving (ending p start) (punches j f line p start count 0 g₀) (r .progress) list₀ list' (g₀ .hits) number at
-        (subst (λ (s : Status). Ran hitsOf s (r .progress) list₀ list' (g₀ .hits) (punches j f line p start count 0 g₀)) stopped (all-refused r list' number at h made stopped)))
+    pub leads-refused : (left : Progress) (list' : List ℤ) (number at : ℕ) → k < count → Ran hitsOf (Refused number at) left list list' (g .hits) hit
+        → Ran hitsOf (Refused number at) left list₀ list' (g₀ .hits) (leaving (ending p start) whole)
+    leads-refused left list' number at h stopped =
+        refused-leaving (ending p start) whole left list₀ list' (g₀ .hits) number at
+        (Runs.leads-out hitsOf list₀ (g₀ .hits) whole hit (rest (k + 1)) left list list' (g .hits) number at stopped (turns h))
 
     -- the last hit is made
-    pub leads-end : (r : Outcome) → count ≤ k → r ≡ record { status = Passed; progress = ending p start g } → Carried r list₀ list (g₀ .hits) (leaving (ending p start) (punches j f line p start count 0 g₀))
-    leads-end r h e =
-        rw e
-        (ran-leaving hitsOf hitsOf (ending p start) (ending-hits p start) (punches j f line p start count 0 g₀) Passed g list₀ list (g₀ .hits)
-        (leads Passed g list (ran-as hitsOf Passed g list list (g .hits) (rest-end k g h) (ran-still hitsOf g list))))
+    pub leads-end : count ≤ k → Ran hitsOf Passed (ending p start g) list₀ list (g₀ .hits) (leaving (ending p start) whole)
+    leads-end h =
+        ran-leaving hitsOf hitsOf (ending p start) (ending-hits p start) whole Passed g list₀ list (g₀ .hits)
+        (Runs.leads-end hitsOf list₀ (g₀ .hits) whole g list (Runs.leads-as hitsOf list₀ (g₀ .hits) whole list (g .hits) (rest-end k g h) leads))

@@ -10,6 +10,7 @@ use Rattle.lanes.specs.declared.Cursor.{Cursor}
 use Rattle.aries.specs.declared.point.Point.{Point}
 use Rattle.aries.specs.declared.block.Pattern.{Pattern}
 use Rattle.aries.specs.declared.block.Pattern.the-variants.{Line, Arc, Circle, Grid}
+use Rattle.patterns.specs.declared.places.Aim.{Aim}
 use Rattle.aries.specs.Test.{pick}
 use Rattle.aries.specs.Lanes.{lane, along}
 use Rattle.aries.specs.Moves.{pointAt}
@@ -34,6 +35,10 @@ laneEnd (Arc radius angle step count) = 65535
 laneEnd (Circle radius angle clockwise count) = 65535
 laneEnd (Grid vertical pitch steps) = pick vertical (steps .y) (steps .x)
 
+-- what all hits of a pattern share
+abbrev pub aimOf : Pattern → Aim
+aimOf p = record { direction = lineDirection p; last = laneEnd p }
+
 -- the offset of place m of a grid whose lanes end so
 abbrev pub gridAt : Bool → Point → ℕ → ℕ → Point
 gridAt vertical pitch last m =
@@ -42,9 +47,8 @@ gridAt vertical pitch last m =
     (pointAt (pos (along last m) *ℤ pitch .x) (pos (lane last m) *ℤ pitch .y))
 
 -- all is ready for hit k
-pub record Aimed (p : Pattern) (direction : Direction) (last : ℕ) (cursor : Cursor) (k : ℕ) : Type 0 where
+pub record Aimed (p : Pattern) (aim : Aim) (cursor : Cursor) (k : ℕ) : Type 0 where
   pub reach : reaches p ≡ true
   pub counted : k < holes p
-  pub directed : direction ≡ lineDirection p
-  pub laned : last ≡ laneEnd p
-  pub placed : cursor ≡ cursorAt last (suc k)
+  pub aimed : aim ≡ aimOf p
+  pub placed : cursor ≡ cursorAt (aim .last) (suc k)

@@ -7,12 +7,13 @@ ghost use mathlib.Core.Path.{_≡_};
 ghost use mathlib.Core.Bool.{true};
 ghost use Prim.Native.Nat.{_<_, _≤_};
 ghost use lib.IntN.{pos, _*ℤ_};
+ghost use Rattle.sine.specs.Series.{Tables};
 ghost use Rattle.lanes.specs.Cursors.{passed};
 ghost use Rattle.aries.specs.Places.{pointOf};
 ghost use Rattle.aries.specs.Judging.{isNear};
 ghost use Rattle.aries.specs.Moves.{pointAt, _⊕_};
 ghost use Rattle.aries.specs.Patterns.{polar, turned, circleAngle, hole};
-ghost use Rattle.patterns.specs.Aims.{lineDirection, laneEnd, toward, gridAt, Aimed};
+ghost use Rattle.patterns.specs.Aims.{lineDirection, laneEnd, aimOf, toward, gridAt, Aimed};
 
 // The last place of a lane that holds all hits of a pattern.
 const ONE_LANE: u16 = 65_535;
@@ -20,12 +21,29 @@ const ONE_LANE: u16 = 65_535;
 // Two full turns, in hundredths of a degree.
 const TWO_TURNS: u64 = 72_000;
 
+// What all hits of a pattern share: the direction of a line, and the last place of a lane.
+pub struct Aim {
+    pub direction: Direction,
+    pub last: u16,
+}
+
 // The direction of a line, for all its hits. Other patterns have none.
-pub fn line_direction(pattern: Pattern) -> Direction
+fn line_direction(
+    pattern: Pattern,
+    degrees: &[u32; 91],
+    sines: &[u32; 100],
+    cosines: &[u32; 100],
+) -> Direction
+    requires { ⌜ Tables (now degrees) (now sines) (now cosines) ⌝ }
     ensures { λ r. ⌜ r ≡ lineDirection pattern ⌝ }
 {
     match pattern {
-        Pattern::Line { angle, .. } => sine::direction_of(signed::widen(angle)),
+        Pattern::Line { angle, .. } => sine::direction_of(
+            signed::widen(angle),
+            degrees,
+            sines,
+            cosines,
+        ),
         Pattern::Arc { .. } => Direction { cosine: 0, sine: 0 },
         Pattern::Circle { .. } => Direction { cosine: 0, sine: 0 },
         Pattern::Grid { .. } => Direction { cosine: 0, sine: 0 },
@@ -33,7 +51,7 @@ pub fn line_direction(pattern: Pattern) -> Direction
 }
 
 // The last place of a lane of hits: of a row, or of a column in a vertical grid. Other patterns have one lane.
-pub fn lane_end(pattern: Pattern) -> u16
+fn lane_end(pattern: Pattern) -> u16
     ensures { λ r. ⌜ r ≡ laneEnd pattern ⌝ }
 {
     match pattern {
@@ -46,6 +64,21 @@ pub fn lane_end(pattern: Pattern) -> u16
             ..
         } => { if vertical { steps.y } else { steps.x } }
     }
+}
+
+// What the hits of a pattern share. The tables of sines are lent.
+pub fn take_aim(
+    pattern: Pattern,
+    degrees: &[u32; 91],
+    sines: &[u32; 100],
+    cosines: &[u32; 100],
+) -> Aim
+    requires { ⌜ Tables (now degrees) (now sines) (now cosines) ⌝ }
+    ensures { λ r. ⌜ r ≡ aimOf pattern ⌝ }
+{
+    let direction = line_direction(pattern, degrees, sines, cosines);
+    let last = lane_end(pattern);
+    Aim { direction, last }
 }
 
 // The place at a distance from the start, in a direction.
@@ -72,10 +105,22 @@ fn line_place(start: Point, pitch: i32, direction: Direction, n: u16) -> Place
 }
 
 // The place at a radius from the start and an angle.
-fn arc_place(start: Point, radius: i32, angle: i64) -> Place
+fn arc_place(
+    start: Point,
+    radius: i32,
+    angle: i64,
+    degrees: &[u32; 91],
+    sines: &[u32; 100],
+    cosines: &[u32; 100],
+) -> Place
+    requires { ⌜ Tables (now degrees) (now sines) (now cosines) ⌝ }
     ensures { λ r. ⌜ pointOf r ≡ start ⊕ polar radius angle ⌝ }
 {
-    polar_place(start, radius, sine::direction_of(angle))
+    polar_place(
+        start,
+        radius,
+        sine::direction_of(angle, degrees, sines, cosines),
+    )
 }
 
 // The part k / n of a full turn, to the nearest hundredth of a degree, halves up: all is doubled, so that n is the half.
@@ -129,18 +174,23 @@ fn grid_hit(start: Point, vertical: bool, pitch: Point, last: u16, cursor: Curso
     }
 }
 
-// The place of hit k. The line's direction, the last place of a lane and the cursor are those of the pattern.
+// The place of hit k. Aim and cursor are those of the pattern, and the tables of sines are lent.
 pub fn hit_place(
     pattern: Pattern,
     start: Point,
-    direction: Direction,
-    last: u16,
+    aim: Aim,
     cursor: Cursor,
     k: u32,
+    degrees: &[u32; 91],
+    sines: &[u32; 100],
+    cosines: &[u32; 100],
 ) -> Place
-    requires { ⌜ Aimed pattern direction last cursor k ⌝ }
+    requires { ⌜ Aimed pattern aim cursor k ⌝ }
+    requires { ⌜ Tables (now degrees) (now sines) (now cosines) ⌝ }
     ensures { λ r. ⌜ pointOf r ≡ start ⊕ hole pattern k ⌝ }
 {
+    let direction = aim.direction;
+    let last = aim.last;
     match pattern {
         Pattern::Line { pitch, .. } => line_place(start, pitch, direction, (k + 1) as u16),
         Pattern::Arc {
@@ -148,7 +198,14 @@ pub fn hit_place(
             angle,
             step,
             ..
-        } => arc_place(start, radius, signed::affine(angle, k as u16, step)),
+        } => arc_place(
+            start,
+            radius,
+            signed::affine(angle, k as u16, step),
+            degrees,
+            sines,
+            cosines,
+        ),
         Pattern::Circle {
             radius,
             angle,
@@ -158,6 +215,9 @@ pub fn hit_place(
             start,
             radius,
             circle_angle(angle, clockwise, count, k as u16),
+            degrees,
+            sines,
+            cosines,
         ),
         Pattern::Grid {
             vertical,

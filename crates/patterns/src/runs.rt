@@ -7,7 +7,6 @@ use aries::state::Frame;
 use aries::state::Outcome;
 use aries::state::Progress;
 use aries::state::State;
-use aries::state::Status;
 use aries::state::Stored;
 use lanes::Cursor;
 use press::hits;
@@ -51,22 +50,32 @@ fn punch_hits(
     ensures { λ r. ⌜ Carried r (now (list .entry)) (now (list .exit)) (progress .hits) (leaving (ending pattern start) (punches (lent (length (now (list .entry)))) frame line pattern start (holes pattern) 0 progress)) ⌝ }
 {
     let count = sizes::holes(pattern);
-    let direction = places::line_direction(pattern);
-    let last = places::lane_end(pattern);
-    let mut reached = progress;
+    let degrees = sine::degree_sines();
+    let sines = sine::hundredth_sines();
+    let cosines = sine::hundredth_cosines();
+    let aim = places::take_aim(pattern, &degrees, &sines, &cosines);
+    let state = progress.state;
+    let mut current = state.current;
+    let mut hits = progress.hits;
     let mut cursor = Cursor::first();
     let mut k = 0;
     while k < count {
-        cursor = cursor.next(last);
-        let place = places::hit_place(pattern, start, direction, last, cursor, k);
-        let made = hits::punch(list, frame, line, place, reached);
-        let status = made.status;
-        if let Status::Refused(_, _) = status {
-            return made;
+        cursor = cursor.next(aim.last);
+        let place = places::hit_place(pattern, start, aim, cursor, k, &degrees, &sines, &cosines);
+        let machine = frame.machine;
+        let number = hits::hit(list, machine, place, state.tool, state.nibble, hits);
+        if 0 < number {
+            return Outcome::refused(number, line, progress);
         }
-        reached = made.progress;
+        current = place.point();
+        hits += 1;
         k += 1;
     }
+    let reached = Progress {
+        state: state.moved_to(current),
+        blocks: progress.blocks,
+        hits,
+    };
     Outcome::passed(ending(pattern, start, reached))
 }
 

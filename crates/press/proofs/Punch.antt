@@ -1,58 +1,129 @@
--- Laws of `punch`, one for each way out, and the list after a hit.
-use mathlib.Core.Path.{_≡_, refl}
-use mathlib.Core.Bool.{true, false}
+-- Laws of a hit: its number, one law for each way out; `punch` by that number; and what has been carried out with it.
+use mathlib.Core.Path.{_≡_, refl, sym, ap, _∙_}
+use mathlib.Core.Bool.{Bool, true, false}
 use mathlib.Core.List.{List}
-use Prim.Native.Nat.{ℕ, _+_, _*_, _<_, _≤_}
+use Prim.Native.Nat.{ℕ, zero, suc, _+_, _*_, _/_, _<_, _≤_}
 use native.Mathlib.Omega.{arith}
+use lib.Dec.{ltb}
 use lib.IntN.{ℤ}
 use lib.ListN.{length}
-use borrow.Author.Tests.{lt-ltb, le-ltb}
+use borrow.Author.Tests.{lt-ltb, le-ltb, ltb-true}
+use Rattle.aries.specs.declared.machine.Machine.{Machine}
 use Rattle.aries.specs.declared.point.Point.{Point}
 use Rattle.aries.specs.declared.state.Frame.{Frame}
 use Rattle.aries.specs.declared.state.Progress.{Progress}
-use Rattle.aries.specs.declared.state.Outcome.{Outcome}
-use Rattle.aries.specs.declared.state.Status.the-variants.{Passed}
-use Rattle.aries.specs.Outcome.{Out, done, refused}
-use Rattle.aries.specs.Hits.{Made}
-use Rattle.aries.specs.Judging.{Judging, room, judged, near}
+use Rattle.aries.specs.declared.state.Status.the-variants.{Passed, Refused}
+use Rattle.aries.specs.Outcome.{Out, done, refused, _>>=_, need}
+use Rattle.aries.specs.Test.{pick}
+use Rattle.aries.specs.Judging.{lent, near}
 use Rattle.aries.specs.Machine.{covers}
+use Rattle.aries.specs.Hits.{Made}
 use Rattle.aries.specs.Moves.{hitOf, hitting, punch}
-use Rattle.aries.specs.Runs.{put, over, Carried}
-use Rattle.aries.proofs.Carried.{carried-made}
+use Rattle.aries.specs.Runs.{over, Ran}
+use Rattle.aries.proofs.Runs.{ran-as, ran-refused, ran-made}
+use Rattle.press.specs.Hits.{hitNumber, listAfter, byNumber}
 
-module _ (j : Judging) (f : Frame) (line : ℕ) (p : Point) (g : Progress) where
+-- ---- The number of a hit
+
+-- the number by its four tests
+abbrev chosen : Bool → Bool → Bool → Bool → ℕ
+chosen t n c r = pick t (pick n (pick c (pick r 0 17) 16) 15) 14
+
+module _ (numbers : ℕ) (m : Machine) (p : Point) (tool hits : ℕ) where
   -- 14
-  pub punch-no-tool : g .state .tool ≡ 0 → punch j f line p g ≡ refused 14 line
-  unfolding punch
-  punch-no-tool t = simp (le-ltb 0 (g .state .tool) (omega arith))
+  pub number-no-tool : tool ≡ 0 → hitNumber numbers m p tool hits ≡ 14
+  unfolding hitNumber
+  number-no-tool t = simp (le-ltb 0 tool (omega arith))
 
   -- 15
-  pub punch-too-far : 0 < g .state .tool → judged (j .bounds) (near p) ≡ false → punch j f line p g ≡ refused 15 line
-  unfolding punch
-  punch-too-far t n = simp (lt-ltb 0 (g .state .tool) t, n)
+  pub number-too-far : 0 < tool → near p ≡ false → hitNumber numbers m p tool hits ≡ 15
+  unfolding hitNumber
+  number-too-far t n = simp (lt-ltb 0 tool t, n)
 
   -- 16
-  pub punch-out-of-range : 0 < g .state .tool → judged (j .bounds) (near p) ≡ true → judged (j .bounds) (covers (f .machine) p) ≡ false
-      → punch j f line p g ≡ refused 16 line
-  unfolding punch
-  punch-out-of-range t n c = simp (lt-ltb 0 (g .state .tool) t, n, c)
+  pub number-out-of-range : 0 < tool → near p ≡ true → covers m p ≡ false → hitNumber numbers m p tool hits ≡ 16
+  unfolding hitNumber
+  number-out-of-range t n c = simp (lt-ltb 0 tool t, n, c)
 
   -- 17
-  pub punch-full : 0 < g .state .tool → judged (j .bounds) (near p) ≡ true → judged (j .bounds) (covers (f .machine) p) ≡ true
-      → room (j .places) (g .hits) ≡ false → punch j f line p g ≡ refused 17 line
-  unfolding punch
-  punch-full t n c r = simp (lt-ltb 0 (g .state .tool) t, n, c, r)
+  pub number-full : 0 < tool → near p ≡ true → covers m p ≡ true → numbers / 4 ≤ hits → hitNumber numbers m p tool hits ≡ 17
+  unfolding hitNumber
+  number-full t n c r = simp (lt-ltb 0 tool t, n, c, le-ltb hits (numbers / 4) r)
 
   -- a hit
-  pub punch-hit : 0 < g .state .tool → judged (j .bounds) (near p) ≡ true → judged (j .bounds) (covers (f .machine) p) ≡ true
-      → room (j .places) (g .hits) ≡ true → punch j f line p g ≡ done (hitting g p)
-  unfolding punch
-  punch-hit t n c r = simp (lt-ltb 0 (g .state .tool) t, n, c, r)
+  pub number-none : 0 < tool → near p ≡ true → covers m p ≡ true → hits < numbers / 4 → hitNumber numbers m p tool hits ≡ 0
+  unfolding hitNumber
+  number-none t n c r = simp (lt-ltb 0 tool t, n, c, lt-ltb hits (numbers / 4) r)
 
--- a hit that has a place in the list, written there
-pub hit-carried : (r : Outcome) (g : Progress) (p : Point) (before after : List ℤ) (out : Out (Made Progress))
-    → r ≡ record { status = Passed; progress = hitting g p .after } → out ≡ done (hitting g p) → after ≡ put before (g .hits) (hitOf (g .state) p)
-    → 4 * g .hits + 4 ≤ length before → Carried r before after (g .hits) out
-unfolding over
-hit-carried r g p before after out e o written h =
-    carried-made r (hitting g p) before after (g .hits) out e o written refl (λ _. omega arith)
+-- where no test fails, all hold
+all-hold : (t n c r : Bool) → chosen t n c r ≡ 0 → (n ≡ true) × (r ≡ true)
+all-hold true true true true e = (refl, refl)
+all-hold true true true false e = absurd (omega (arith, e))
+all-hold true true false r e = absurd (omega (arith, e))
+all-hold true false c r e = absurd (omega (arith, e))
+all-hold false n c r e = absurd (omega (arith, e))
+
+-- ---- `punch` by that number
+
+pub punch-by-number : (numbers : ℕ) (f : Frame) (line : ℕ) (p : Point) (g : Progress)
+    → punch (lent numbers) f line p g ≡ byNumber (hitNumber numbers (f .machine) p (g .state .tool) (g .hits)) line (hitting g p)
+unfolding punch hitNumber
+punch-by-number numbers f line p g =
+    go (ltb 0 (g .state .tool)) (near p) (covers (f .machine) p) (ltb (g .hits) (numbers / 4))
+  where
+    judging : Bool → Bool → Bool → Bool → Out (Made Progress)
+    judging t n c r = do
+      _ ← need t 14 line
+      _ ← need n 15 line
+      _ ← need c 16 line
+      _ ← need r 17 line
+      done (hitting g p)
+
+    go : (t n c r : Bool) → judging t n c r ≡ byNumber (chosen t n c r) line (hitting g p)
+    go false n c r = refl
+    go true false c r = refl
+    go true true false r = refl
+    go true true true false = refl
+    go true true true true = refl
+
+-- ---- What has been carried out with a hit of this number
+
+abbrev hitsOf : Progress → ℕ
+hitsOf g = g .hits
+
+module _ (f : Frame) (line : ℕ) (p : Point) (g : Progress) (before : List ℤ) (number : ℕ)
+    (is : number ≡ hitNumber (length before) (f .machine) p (g .state .tool) (g .hits)) where
+  comes-to : punch (lent (length before)) f line p g ≡ byNumber number line (hitting g p)
+  comes-to = punch-by-number (length before) f line p g ∙ ap (λ (n : ℕ). byNumber n line (hitting g p)) (sym is)
+
+  holds : number ≡ 0 → (near p ≡ true) × (ltb (g .hits) (length before / 4) ≡ true)
+  unfolding hitNumber
+  holds none = all-hold (ltb 0 (g .state .tool)) (near p) (covers (f .machine) p) (ltb (g .hits) (length before / 4)) (sym is ∙ none)
+
+  -- a hit that is not refused is near, and its four numbers lie in the list
+  pub hit-near : number ≡ 0 → near p ≡ true
+  hit-near none = holds none .0
+
+  pub hit-fits : number ≡ 0 → 4 * g .hits + 4 ≤ length before
+  hit-fits none = let h = ltb-true (g .hits) (length before / 4) (holds none .1) in omega arith
+
+  -- it is made where the list has it
+  pub hit-made : (after : List ℤ) → number ≡ 0 → after ≡ listAfter number before (g .hits) (hitOf (g .state) p)
+      → Ran hitsOf Passed (hitting g p .after) before after (g .hits) (punch (lent (length before)) f line p g)
+  unfolding over
+  hit-made after none written =
+      ran-as hitsOf Passed (hitting g p .after) before after (g .hits) (comes-to ∙ ap (λ (n : ℕ). byNumber n line (hitting g p)) none)
+      (ran-made hitsOf (hitting g p) before after (g .hits)
+      (written ∙ ap (λ (n : ℕ). listAfter n before (g .hits) (hitOf (g .state) p)) none)
+      refl (λ _. let h = hit-fits none in omega arith))
+
+  refuses : (n : ℕ) → 0 < n → byNumber n line (hitting g p) ≡ refused n line
+  refuses zero h = absurd (omega arith)
+  refuses (suc n) h = refl
+
+  -- and any other is refused, whatever is left
+  pub hit-refused : (left : Progress) (after : List ℤ) → 0 < number
+      → Ran hitsOf (Refused number line) left before after (g .hits) (punch (lent (length before)) f line p g)
+  hit-refused left after h =
+      ran-as hitsOf (Refused number line) left before after (g .hits) (comes-to ∙ refuses number h)
+      (ran-refused hitsOf left before after (g .hits) number line)

@@ -1,3 +1,4 @@
+use aries::machine::Machine;
 use aries::point::Place;
 use aries::point::Point;
 use aries::refusal;
@@ -13,6 +14,7 @@ ghost use Rattle.aries.specs.Judging.{lent};
 ghost use Rattle.aries.specs.Hits.{modeNumber};
 ghost use Rattle.aries.specs.Moves.{punch};
 ghost use Rattle.aries.specs.Runs.{put, Carried};
+ghost use Rattle.press.specs.Hits.{hitNumber, listAfter};
 
 // The numbers of a hit in the list: X, Y, tool and mode.
 const NUMBERS: usize = 4;
@@ -55,6 +57,33 @@ pub fn put_hit(list: &mut [i32], k: usize, p: Point, tool: u8, nibble: bool)
     list[at + 3] = mode;
 }
 
+// Makes a hit with a tool in a mode, after so many hits, or refuses it: the answer is the refusal's number, or 0.
+pub fn hit(
+    list: &mut [i32],
+    machine: Machine,
+    place: Place,
+    tool: u8,
+    nibble: bool,
+    hits: usize,
+) -> u8
+    ensures { λ r. ⌜ (r ≡ hitNumber (length (now (list .entry))) machine (pointOf place) tool hits) × (now (list .exit) ≡ listAfter r (now (list .entry)) hits (record { place = pointOf place; tool = tool; nibble = nibble })) ⌝ }
+{
+    if tool == 0 {
+        return refusal::NO_TOOL;
+    }
+    if !place.is_near() {
+        return refusal::TOO_FAR;
+    }
+    if !machine.covers(place) {
+        return refusal::OUT_OF_RANGE;
+    }
+    if places_left(list.len(), hits) == 0 {
+        return refusal::LIST_FULL;
+    }
+    put_hit(list, hits, place.point(), tool, nibble);
+    0
+}
+
 // Makes a hit with the state's tool and mode; the place becomes the current point.
 pub fn punch(list: &mut [i32], frame: Frame, line: u64, place: Place, progress: Progress) -> Outcome
     ensures { λ r. ⌜ Carried r (now (list .entry)) (now (list .exit)) (progress .hits) (punch (lent (length (now (list .entry)))) frame line (pointOf place) progress) ⌝ }
@@ -62,21 +91,11 @@ pub fn punch(list: &mut [i32], frame: Frame, line: u64, place: Place, progress: 
     let state = progress.state;
     let machine = frame.machine;
     let hits = progress.hits;
-    if state.tool == 0 {
-        return Outcome::refused(refusal::NO_TOOL, line, progress);
+    let number = hit(list, machine, place, state.tool, state.nibble, hits);
+    if 0 < number {
+        return Outcome::refused(number, line, progress);
     }
-    if !place.is_near() {
-        return Outcome::refused(refusal::TOO_FAR, line, progress);
-    }
-    if !machine.covers(place) {
-        return Outcome::refused(refusal::OUT_OF_RANGE, line, progress);
-    }
-    if places_left(list.len(), hits) == 0 {
-        return Outcome::refused(refusal::LIST_FULL, line, progress);
-    }
-    let p = place.point();
-    put_hit(list, hits, p, state.tool, state.nibble);
-    let moved = state.moved_to(p);
+    let moved = state.moved_to(place.point());
     Outcome::passed(Progress {
         state: moved,
         blocks: progress.blocks,

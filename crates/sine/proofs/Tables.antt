@@ -1,6 +1,6 @@
 -- The entries of the three tables, one test over all of them, and the lemma that turns the test into the rule at each entry.
 -- Assumes nothing.
-use mathlib.Core.Path.{_≡_, refl}
+use mathlib.Core.Path.{_≡_, refl, sym}
 use mathlib.Core.Bool.{Bool, true}
 use mathlib.Core.List.{List, [], _∷_}
 use Prim.Native.Nat.{ℕ, _-_, _/_, _%_, _<_, _≤_}
@@ -10,7 +10,7 @@ use lib.ListN.{length, getD}
 use borrow.Author.Tests.{eqb-true, leb-true}
 use Rattle.signed.specs.Signed.{both}
 use Rattle.signed.proofs.Tests.{both-left, both-right}
-use Rattle.sine.specs.Series.{one, degreeSine, hundredthSine, hundredthCosine}
+use Rattle.sine.specs.Series.{one, degreeSine, hundredthSine, hundredthCosine, Follows, Tables}
 use Rattle.sine.specs.Sine.{joined, quadrantSine}
 use Rattle.sine.proofs.Table.{every, every-at}
 
@@ -102,13 +102,40 @@ pub hundredth-cosine : (k : ℕ) → k < 100 → Entry hundredthCosine hundredth
 hundredth-cosine k h =
     entry hundredthCosine hundredthCosines (both-right (follows hundredthSine hundredthSines) _ hundredths-follow) k h
 
--- the four entries that an angle of the first quadrant is joined of
+-- the entries of the three tables are the rules'
+pub tables-right : Tables degreeSines hundredthSines hundredthCosines
+tables-right =
+    record {
+      degree = λ k h. degree-sine k h .value;
+      sine = λ k h. hundredth-sine k h .value;
+      cosine = λ k h. hundredth-cosine k h .value;
+    }
+
+-- a table of the same rule has the same bound
+within : (rule : ℕ → ℕ) (size : ℕ) (table other : List ℕ) → Follows rule size other → (k : ℕ) → k < size → Entry rule table k → getD other k 0 ≤ one
+within rule size table other follows k h e = rw (follows k h, sym (e .value)) (e .bound)
+
+-- the four entries that an angle of the first quadrant is joined of, in any such tables
+module _ (degrees sines cosines : List ℕ) (tables : Tables degrees sines cosines) where
+  pub degree-small : (k : ℕ) → k < 91 → getD degrees k 0 ≤ one
+  degree-small k h = within degreeSine 91 degreeSines degrees (tables .degree) k h (degree-sine k h)
+
+  pub sine-small : (k : ℕ) → k < 100 → getD sines k 0 ≤ one
+  sine-small k h = within hundredthSine 100 hundredthSines sines (tables .sine) k h (hundredth-sine k h)
+
+  pub cosine-small : (k : ℕ) → k < 100 → getD cosines k 0 ≤ one
+  cosine-small k h = within hundredthCosine 100 hundredthCosines cosines (tables .cosine) k h (hundredth-cosine k h)
+
+  pub quadrant-joined : (a : ℕ) → a ≤ 9000 → joined (getD degrees (a / 100) 0) (getD degrees (90 - a / 100) 0) (getD sines (a % 100) 0) (getD cosines (a % 100) 0) ≡ quadrantSine a
+  unfolding quadrantSine
+  quadrant-joined a h =
+      rw (
+        tables .degree (a / 100) (omega arith),
+        tables .degree (90 - a / 100) (omega arith),
+        tables .sine (a % 100) (omega arith),
+        tables .cosine (a % 100) (omega arith),
+      )
+
+-- and in these
 pub quadrant-entries : (a : ℕ) → a ≤ 9000 → joined (getD degreeSines (a / 100) 0) (getD degreeSines (90 - a / 100) 0) (getD hundredthSines (a % 100) 0) (getD hundredthCosines (a % 100) 0) ≡ quadrantSine a
-unfolding quadrantSine
-quadrant-entries a h =
-    rw (
-      degree-sine (a / 100) (omega arith) .value,
-      degree-sine (90 - a / 100) (omega arith) .value,
-      hundredth-sine (a % 100) (omega arith) .value,
-      hundredth-cosine (a % 100) (omega arith) .value,
-    )
+quadrant-entries = quadrant-joined degreeSines hundredthSines hundredthCosines tables-right

@@ -2,7 +2,15 @@
 ghost use mathlib.Core.Path.{_≡_};
 ghost use Prim.Native.Nat.{_≤_, _<_};
 ghost use lib.IntN.{pos, natAbs, _+ℤ_, _-ℤ_};
-ghost use Rattle.sine.specs.Series.{nearest, one};
+ghost use Rattle.sine.specs.Series.{
+  nearest,
+  one,
+  degreeSine,
+  hundredthSine,
+  hundredthCosine,
+  Follows,
+  Tables,
+};
 ghost use Rattle.sine.specs.Sine.{
   joined,
   quadrantSine,
@@ -63,20 +71,36 @@ fn joined(sine1: u32, cosine1: u32, sine2: u32, cosine2: u32) -> u32
     nearest(sum) as u32
 }
 
+// A copy of the table of whole degrees, to be lent for many angles.
+pub fn degree_sines() -> [u32; 91]
+    ensures { λ r. ⌜ Follows degreeSine 91 r ⌝ }
+{
+    DEGREE_SINES
+}
+
+// A copy of the table of the sines of hundredths.
+pub fn hundredth_sines() -> [u32; 100]
+    ensures { λ r. ⌜ Follows hundredthSine 100 r ⌝ }
+{
+    HUNDREDTH_SINES
+}
+
+// A copy of the table of the cosines of hundredths.
+pub fn hundredth_cosines() -> [u32; 100]
+    ensures { λ r. ⌜ Follows hundredthCosine 100 r ⌝ }
+{
+    HUNDREDTH_COSINES
+}
+
 // The sine of an angle of the first quadrant, from its whole degrees and the hundredths past them.
-fn quadrant_sine(a: u32) -> u32
+fn quadrant_sine(a: u32, degrees: &[u32; 91], sines: &[u32; 100], cosines: &[u32; 100]) -> u32
     requires { ⌜ a ≤ 9000 ⌝ }
+    requires { ⌜ Tables (now degrees) (now sines) (now cosines) ⌝ }
     ensures { λ r. ⌜ r ≡ quadrantSine a ⌝ }
 {
     let d = (a / 100) as usize;
     let h = (a % 100) as usize;
-    let degrees = DEGREE_SINES;
-    joined(
-        degrees[d],
-        degrees[90 - d],
-        HUNDREDTH_SINES[h],
-        HUNDREDTH_COSINES[h],
-    )
+    joined(degrees[d], degrees[90 - d], sines[h], cosines[h])
 }
 
 // An angle reduced to a full turn.
@@ -117,34 +141,47 @@ fn acute(t: u32) -> u32
 }
 
 // The sine of a reduced angle.
-fn turn_sine(t: u32) -> i32
+fn turn_sine(t: u32, degrees: &[u32; 91], sines: &[u32; 100], cosines: &[u32; 100]) -> i32
     requires { ⌜ t < 36000 ⌝ }
+    requires { ⌜ Tables (now degrees) (now sines) (now cosines) ⌝ }
     ensures { λ r. ⌜ r ≡ turnSine t ⌝ }
 {
-    signed::with_sign(18000 < t, quadrant_sine(acute(t)))
+    signed::with_sign(18000 < t, quadrant_sine(acute(t), degrees, sines, cosines))
 }
 
 // The sine of any angle.
 pub fn sine(angle: i64) -> i32
     ensures { λ r. ⌜ r ≡ sine angle ⌝ }
 {
-    turn_sine(turn(angle))
+    let degrees = degree_sines();
+    let sines = hundredth_sines();
+    let cosines = hundredth_cosines();
+    turn_sine(turn(angle), &degrees, &sines, &cosines)
 }
 
 // The cosine of any angle. The angle is reduced first, so that nothing can overflow.
 pub fn cosine(angle: i64) -> i32
     ensures { λ r. ⌜ r ≡ cosine angle ⌝ }
 {
-    turn_sine(complement(turn(angle)))
+    let degrees = degree_sines();
+    let sines = hundredth_sines();
+    let cosines = hundredth_cosines();
+    turn_sine(complement(turn(angle)), &degrees, &sines, &cosines)
 }
 
-// Cosine and sine of one angle, which is reduced once.
-pub fn direction_of(angle: i64) -> Direction
+// Cosine and sine of one angle, which is reduced once. The tables are lent: a copy of them costs more than an angle.
+pub fn direction_of(
+    angle: i64,
+    degrees: &[u32; 91],
+    sines: &[u32; 100],
+    cosines: &[u32; 100],
+) -> Direction
+    requires { ⌜ Tables (now degrees) (now sines) (now cosines) ⌝ }
     ensures { λ r. ⌜ r ≡ directionOf angle ⌝ }
 {
     let t = turn(angle);
-    let c = turn_sine(complement(t));
-    let s = turn_sine(t);
+    let c = turn_sine(complement(t), degrees, sines, cosines);
+    let s = turn_sine(t, degrees, sines, cosines);
     Direction { cosine: c, sine: s }
 }
 

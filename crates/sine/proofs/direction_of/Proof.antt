@@ -38,11 +38,12 @@ complement-requires : tie.Need-complement-requires
 complement-requires c κs = omega (arith, reduced c, turn-small (c .before .args .angle))
 
 turn-sine-requires : tie.Need-turn-sine-requires
-turn-sine-requires c κs = omega (arith, c .complement .ensures, turn-small (pos 9000 -ℤ pos (c .before .turn .result)))
+turn-sine-requires c κs =
+    (omega (arith, c .complement .ensures, turn-small (pos 9000 -ℤ pos (c .before .turn .result))), c .before .before .pre)
 
 turn-sine-requires-2 : tie.Need-turn-sine-requires-2
 turn-sine-requires-2 c κs =
-    omega (arith, reduced (c .before .before), turn-small (c .before .before .before .args .angle))
+    (omega (arith, reduced (c .before .before), turn-small (c .before .before .before .args .angle)), c .before .before .before .pre)
 
 returns : tie.Need-returns
 unfolding directionOf

@@ -20,12 +20,13 @@ acute-requires : tie.Need-acute-requires
 acute-requires c κs = search needs
 
 quadrant-sine-requires : tie.Need-quadrant-sine-requires
-quadrant-sine-requires c κs = omega (arith, c .acute .ensures, acute-small (c .before .args .t) (c .before .pre))
+quadrant-sine-requires c κs =
+    (omega (arith, c .acute .ensures, acute-small (c .before .args .t) (c .before .pre .0)), c .before .pre .1)
 
 with-sign-requires : tie.Need-with-sign-requires
 with-sign-requires c κs =
     let t = c .before .before .args .t in
-    omega (arith, size c, quadrantSine-small (acute t) (acute-small t (c .before .before .pre)))
+    omega (arith, size c, quadrantSine-small (acute t) (acute-small t (c .before .before .pre .0)))
 
 returns : tie.Need-returns
 unfolding turnSine

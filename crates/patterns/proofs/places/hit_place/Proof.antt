@@ -13,6 +13,7 @@ use Rattle.lanes.proofs.Cursors.{passed-at, rest-within}
 use Rattle.aries.specs.declared.point.Point.{Point}
 use Rattle.aries.specs.Moves.{_⊕_}
 use Rattle.aries.specs.Patterns.{circleAngle, holes, reaches}
+use Rattle.patterns.specs.declared.places.Aim.{Aim}
 use Rattle.patterns.specs.Aims.{gridAt}
 use Rattle.patterns.proofs.Holes.{nearer, lane-small}
 use Rattle.patterns.proofs.Offsets.{hole-line, hole-arc, hole-circle, hole-grid}
@@ -20,17 +21,21 @@ use Rattle.patterns.proofs.places.hit_place.Statement.{statement}
 use Rattle.patterns.proofs.places.hit_place.Tie as tie
 
 -- hits are counted up to the count of each kind
-in-line : (c : tie.After-pattern) → c .before .before .args .k < c .pattern .given .0 .1 .1 .0
+in-line : (c : tie.After-pattern) → c .before .before .before .args .k < c .pattern .given .0 .1 .1 .0
 unfolding holes
-in-line c = omega (arith, ap holes (c .pattern .given .1), c .before .before .pre .counted)
+in-line c = omega (arith, ap holes (c .pattern .given .1), c .before .before .before .pre .0 .counted)
 
-in-arc : (c : tie.After-pattern2) → c .before .before .args .k < c .pattern2 .given .0 .1 .1 .1 .0
+in-arc : (c : tie.After-pattern2) → c .before .before .before .args .k < c .pattern2 .given .0 .1 .1 .1 .0
 unfolding holes
-in-arc c = omega (arith, ap holes (c .pattern2 .given .1), c .before .before .pre .counted)
+in-arc c = omega (arith, ap holes (c .pattern2 .given .1), c .before .before .before .pre .0 .counted)
 
-in-circle : (c : tie.After-pattern3) → c .before .before .args .k < c .pattern3 .given .0 .1 .1 .1 .0
+in-circle : (c : tie.After-pattern3) → c .before .before .before .args .k < c .pattern3 .given .0 .1 .1 .1 .0
 unfolding holes
-in-circle c = omega (arith, ap holes (c .pattern3 .given .1), c .before .before .pre .counted)
+in-circle c = omega (arith, ap holes (c .pattern3 .given .1), c .before .before .before .pre .0 .counted)
+
+-- a grid's steps are of 16 bits
+steps-fit : (c : tie.After-known-told4) → (c .before .pattern4 .given .0 .1 .1 .0 .x < 65536) × (c .before .pattern4 .given .0 .1 .1 .0 .y < 65536)
+steps-fit c = (omega arith, omega arith)
 
 -- signed numbers of a pattern, read back
 pitch-back : (c : tie.After-known-told) → toZ w32 (ofZ w32 (c .before .pattern .given .0 .0)) ≡ c .before .pattern .given .0 .0
@@ -54,11 +59,11 @@ module _ (c : tie.After-known-told3) where
   circle-start = search needs
 
 -- the angle of a hit of an arc
-arc-angle : (c : tie.After-affine) → c .affine .result ≡ c .before .before .pattern2 .given .0 .1 .0 +ℤ (pos (c .before .before .before .before .args .k) *ℤ c .before .before .pattern2 .given .0 .1 .1 .0)
+arc-angle : (c : tie.After-affine) → c .affine .result ≡ c .before .before .pattern2 .given .0 .1 .0 +ℤ (pos (c .before .before .before .before .before .args .k) *ℤ c .before .before .pattern2 .given .0 .1 .1 .0)
 arc-angle c = simp (arc-start (c .before), arc-step (c .before)) at (c .affine .ensures)
 
 -- and of a circle
-turned-angle : (c : tie.After-circle-angle) → c .circle-angle .result ≡ circleAngle (c .before .before .pattern3 .given .0 .1 .0) (c .before .before .pattern3 .given .0 .1 .1 .0) (c .before .before .pattern3 .given .0 .1 .1 .1 .0) (c .before .before .before .before .args .k)
+turned-angle : (c : tie.After-circle-angle) → c .circle-angle .result ≡ circleAngle (c .before .before .pattern3 .given .0 .1 .0) (c .before .before .pattern3 .given .0 .1 .1 .0) (c .before .before .pattern3 .given .0 .1 .1 .1 .0) (c .before .before .before .before .before .args .k)
 turned-angle c = simp (circle-start (c .before)) at (c .circle-angle .ensures)
 
 enum-known-pattern : tie.Need-enum-known-pattern
@@ -74,9 +79,9 @@ line-place-requires : tie.Need-line-place-requires
 unfolding reaches
 line-place-requires c κs =
     let p = c .before .pattern .given in
-    let a = c .before .before .before in
+    let a = c .before .before .before .before in
     simp (pitch-back c)
-    (nearer (a .args .k + 1) (p .0 .1 .1 .0) (p .0 .0) (let h = in-line (c .before) in omega arith) (sym (ap reaches (p .1)) ∙ a .pre .reach))
+    (nearer (a .args .k + 1) (p .0 .1 .1 .0) (p .0 .0) (let h = in-line (c .before) in omega arith) (sym (ap reaches (p .1)) ∙ a .pre .0 .reach))
 
 enum-known-pattern-2 : tie.Need-enum-known-pattern-2
 enum-known-pattern-2 c = search needs
@@ -108,38 +113,38 @@ enum-known-pattern-4 c = search needs
 grid-hit-requires : tie.Need-grid-hit-requires
 grid-hit-requires c κs =
     let p = c .before .pattern4 .given in
-    let a = c .before .before .before in
-    let lane-fits = lane-small (a .args .pattern) (p .0 .0) (p .0 .1 .0) (p .0 .1 .1 .0) (a .args .last) (a .args .k) (p .1) (a .pre .laned) (a .pre .counted) (omega arith) (omega arith) in
-    omega (arith, ap (λ (d : Cursor). d .rest) (a .pre .placed), ap (λ (d : Cursor). d .lane) (a .pre .placed), rest-within (a .args .last) (suc (a .args .k)))
+    let a = c .before .before .before .before in
+    let lane-fits = lane-small (a .args .pattern) (p .0 .0) (p .0 .1 .0) (p .0 .1 .1 .0) (a .args .aim .last) (a .args .k) (p .1) (ap (λ (m : Aim). m .last) (a .pre .0 .aimed)) (a .pre .0 .counted) (steps-fit c .0) (steps-fit c .1) in
+    omega (arith, ap (λ (d : Cursor). d .rest) (a .pre .0 .placed), ap (λ (d : Cursor). d .lane) (a .pre .0 .placed), rest-within (a .args .aim .last) (suc (a .args .k)))
 
 returns : tie.Need-returns
 returns c =
     let p = c .before .before .pattern .given in
-    let a = c .before .before .before .before in
+    let a = c .before .before .before .before .before in
     (simp (pitch-back (c .before)) at (c .line-place .ensures))
-    ∙ ap (λ (q : Point). a .args .start ⊕ q) (hole-line (a .args .pattern) (a .args .k) (p .0 .0) (p .0 .1 .0) (p .0 .1 .1 .0) (a .args .direction) (p .1) (a .pre .directed))
+    ∙ ap (λ (q : Point). a .args .start ⊕ q) (hole-line (a .args .pattern) (a .args .k) (p .0 .0) (p .0 .1 .0) (p .0 .1 .1 .0) (a .args .aim .direction) (p .1) (ap (λ (m : Aim). m .direction) (a .pre .0 .aimed)))
 
 returns-2 : tie.Need-returns-2
 returns-2 c =
     let p = c .before .before .before .pattern2 .given in
-    let a = c .before .before .before .before .before in
+    let a = c .before .before .before .before .before .before in
     (simp (arc-angle (c .before)) at (simp (arc-radius (c .before .before), read-back w64 (c .before .affine .result) (c .before .affine .ok)) at (c .arc-place .ensures)))
     ∙ ap (λ (q : Point). a .args .start ⊕ q) (hole-arc (a .args .pattern) (a .args .k) (p .0 .0) (p .0 .1 .0) (p .0 .1 .1 .0) (p .0 .1 .1 .1 .0) (p .1))
 
 returns-3 : tie.Need-returns-3
 returns-3 c =
     let p = c .before .before .before .pattern3 .given in
-    let a = c .before .before .before .before .before in
+    let a = c .before .before .before .before .before .before in
     (simp (turned-angle (c .before)) at (simp (circle-radius (c .before .before), read-back w64 (c .before .circle-angle .result) (c .before .circle-angle .ok)) at (c .arc-place2 .ensures)))
     ∙ ap (λ (q : Point). a .args .start ⊕ q) (hole-circle (a .args .pattern) (a .args .k) (p .0 .0) (p .0 .1 .0) (p .0 .1 .1 .0) (p .0 .1 .1 .1 .0) (p .1))
 
 returns-4 : tie.Need-returns-4
 returns-4 c =
     let p = c .before .before .pattern4 .given in
-    let a = c .before .before .before .before in
+    let a = c .before .before .before .before .before in
     c .grid-hit .ensures
-    ∙ ap (λ (m : ℕ). a .args .start ⊕ gridAt (p .0 .0) (p .0 .1 .0) (a .args .last) m) (ap (passed (a .args .last)) (a .pre .placed) ∙ passed-at (a .args .last) (suc (a .args .k)))
-    ∙ ap (λ (q : Point). a .args .start ⊕ q) (hole-grid (a .args .pattern) (a .args .k) (p .0 .0) (p .0 .1 .0) (p .0 .1 .1 .0) (a .args .last) (p .1) (a .pre .laned))
+    ∙ ap (λ (m : ℕ). a .args .start ⊕ gridAt (p .0 .0) (p .0 .1 .0) (a .args .aim .last) m) (ap (passed (a .args .aim .last)) (a .pre .0 .placed) ∙ passed-at (a .args .aim .last) (suc (a .args .k)))
+    ∙ ap (λ (q : Point). a .args .start ⊕ q) (hole-grid (a .args .pattern) (a .args .k) (p .0 .0) (p .0 .1 .0) (p .0 .1 .1 .0) (a .args .aim .last) (p .1) (ap (λ (m : Aim). m .last) (a .pre .0 .aimed)))
 
 pub hit-place-spec : {M : Type 1} → statement M
 hit-place-spec =
