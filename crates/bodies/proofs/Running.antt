@@ -31,6 +31,8 @@ use lib.IntN.{ℤ}
 use Rattle.aries.specs.Macros.{Within, Calls, isStored, firstLine, foundIn, body, carry, begun, runBlock, runLine, runLines, call, runBody}
 use Rattle.text.specs.Lines.{lineLength, blanks}
 use Rattle.text.proofs.Lines.{line-goes-on, line-short, feed-after, lines-at, lines-past, lines-blanks, blanks-go-on, blanks-past}
+use Rattle.bodies.specs.declared.Opening.{Opening}
+use Rattle.bodies.specs.Opening.{Opens}
 use Rattle.bodies.specs.Ordinary.{noCalls}
 
 -- ---- The ways through a block
@@ -82,14 +84,14 @@ module _ (j : Judging) (c : Calls) (f : Frame) (line : ℕ) (b : Block) (g : Pro
 found-stored : (m : Macros) (n : ℕ) (s : Bool) → isStored m n ≡ s → foundIn m n ≡ pick s (Body (getD (m .start) n 0) (getD (m .end) n 0) (firstLine m n)) Nothing
 found-stored m n s e = rw e
 
-stored-by : (m : Macros) (n a e l : ℕ) → foundIn m n ≡ Body a e l → isStored m n ≡ true
+pub stored-by : (m : Macros) (n a e l : ℕ) → foundIn m n ≡ Body a e l → isStored m n ≡ true
 stored-by m n a e l h = go (isStored m n) refl
   where
     go : (s : Bool) → isStored m n ≡ s → isStored m n ≡ true
     go true q = q
     go false q = let k = found-stored m n false q in let z : _≡_ {A = ℕ} 0 1 = cc in absurd (omega arith)
 
-missing-by : (m : Macros) (n : ℕ) → foundIn m n ≡ Nothing → isStored m n ≡ false
+pub missing-by : (m : Macros) (n : ℕ) → foundIn m n ≡ Nothing → isStored m n ≡ false
 missing-by m n h = go (isStored m n) refl
   where
     go : (s : Bool) → isStored m n ≡ s → isStored m n ≡ false
@@ -97,7 +99,7 @@ missing-by m n h = go (isStored m n) refl
     go true q = let k = found-stored m n true q in let z : _≡_ {A = ℕ} 0 1 = cc in absurd (omega arith)
 
 -- what the body that was found says of where it lies
-places : (m : Macros) (n a e l : ℕ) → foundIn m n ≡ Body a e l → (getD (m .start) n 0 ≡ a) × (getD (m .end) n 0 ≡ e) × (firstLine m n ≡ l)
+pub places : (m : Macros) (n a e l : ℕ) → foundIn m n ≡ Body a e l → (getD (m .start) n 0 ≡ a) × (getD (m .end) n 0 ≡ e) × (firstLine m n ≡ l)
 places m n a e l h =
     let k : Body (getD (m .start) n 0) (getD (m .end) n 0) (firstLine m n) ≡ Body a e l = sym (found-stored m n true (stored-by m n a e l h)) ∙ h in
     (cc, cc, cc)
@@ -219,6 +221,10 @@ module _ (j : Judging) (text : List ℕ) (m : Macros) (d : ℕ) (f : Frame) (t :
       ap (λ (n : ℕ). runLines j (call j text m f d) f (first + n) (lines (drop at t)) g) z
       ∙ ap (λ (n : ℕ). runLines j (call j text m f d) f (first + blanks (drop 0 t)) (lines (drop n t)) g) e
       ∙ sym (lines-skip j (call j text m f d) f t 0 first g)
+
+  -- where a body opens, there its lines begin
+  pub body-opened : (first : ℕ) (r : Opening) (g : Progress) → Opens t first r → runLines j (call j text m f d) f (r .line) (lines (drop (r .at) t)) g ≡ runBody j text m d f first t g
+  body-opened first r g o = ap (λ (n : ℕ). runLines j (call j text m f d) f n (lines (drop (r .at) t)) g) (o .counted) ∙ body-start first (r .at) g (o .past)
 
   module _
       (list list₀ mid : List ℤ) (k₀ : ℕ) (whole : Out (Made Progress)) (at end next line : ℕ) (g left : Progress) (status : Status) (inside : at < length t) (block : getD t at 0 ≡ lineFeed → ⊥)

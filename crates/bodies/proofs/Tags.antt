@@ -1,7 +1,9 @@
 -- Blocks by their tags: those that are out of place in a body, and those that call nothing.
 use mathlib.Core.Path.{_≡_, refl, subst}
+use mathlib.Core.Bool.{true, false}
 use mathlib.Core.List.{List, [], _∷_}
 use Prim.Native.Nat.{ℕ}
+use native.Mathlib.Omega.{arith}
 use denote.Enum.Declared.{tagOf}
 use types.Run.{OneOf, miss}
 use Rattle.aries.proofs.block.Block.{the-type}
@@ -12,7 +14,11 @@ use Rattle.aries.specs.declared.state.Progress.{Progress}
 use Rattle.aries.specs.Outcome.{Out, done, refused}
 use Rattle.aries.specs.Judging.{Judging}
 use Rattle.aries.specs.Macros.{carry}
+use Rattle.decode.specs.Ordinary.{isOrdinary}
 use Rattle.bodies.specs.Ordinary.{noCalls}
+
+clash : true ≡ false → ⊥
+clash h = let z : _≡_ {A = ℕ} 0 1 = cc in omega arith
 
 -- G92, G50, G93, G98, U, V, W, and G75 or G76
 abbrev pub outOfPlace : List ℕ
@@ -43,3 +49,42 @@ notCalls = 0 ∷ 1 ∷ 2 ∷ 3 ∷ 4 ∷ 5 ∷ 6 ∷ 7 ∷ 8 ∷ 9 ∷ 10 ∷ 11
 
 pub not-call : (b : Block) → OneOf notCalls (tagOf the-type b) → (n : ℕ) → b ≡ Call n → ⊥
 not-call b h n e = miss notCalls 14 tt (subst (λ (x : Block). OneOf notCalls (tagOf the-type x)) e h)
+
+-- those that are out of place are all that are not ordinary
+pub not-ordinary : (b : Block) → OneOf outOfPlace (tagOf the-type b) → isOrdinary b ≡ false
+not-ordinary (Machine p) h = refl
+not-ordinary End h = refl
+not-ordinary Read h = absurd (miss outOfPlace 2 tt h)
+not-ordinary (Punch a t) h = absurd (miss outOfPlace 3 tt h)
+not-ordinary (Move a t) h = absurd (miss outOfPlace 4 tt h)
+not-ordinary (Origin a) h = absurd (miss outOfPlace 5 tt h)
+not-ordinary (Offset a) h = refl
+not-ordinary (Place l) h = refl
+not-ordinary (Run p t a) h = absurd (miss outOfPlace 8 tt h)
+not-ordinary (Recall n) h = absurd (miss outOfPlace 9 tt h)
+not-ordinary (Nibble b) h = absurd (miss outOfPlace 10 tt h)
+not-ordinary Idle h = absurd (miss outOfPlace 11 tt h)
+not-ordinary (Open n) h = refl
+not-ordinary (Close n) h = refl
+not-ordinary (Call n) h = refl
+not-ordinary (Copy k) h = refl
+
+-- a block that is not ordinary is out of place where no call is looked for
+pub carry-apart : (j : Judging) (f : Frame) (line : ℕ) (b : Block) (g : Progress) → isOrdinary b ≡ false → carry j noCalls f line b g ≡ refused 7 line
+unfolding carry
+carry-apart j f line (Machine p) g h = refl
+carry-apart j f line End g h = refl
+carry-apart j f line Read g h = absurd (clash h)
+carry-apart j f line (Punch a t) g h = absurd (clash h)
+carry-apart j f line (Move a t) g h = absurd (clash h)
+carry-apart j f line (Origin a) g h = absurd (clash h)
+carry-apart j f line (Offset a) g h = refl
+carry-apart j f line (Place l) g h = refl
+carry-apart j f line (Run p t a) g h = absurd (clash h)
+carry-apart j f line (Recall n) g h = absurd (clash h)
+carry-apart j f line (Nibble b) g h = absurd (clash h)
+carry-apart j f line Idle g h = absurd (clash h)
+carry-apart j f line (Open n) g h = refl
+carry-apart j f line (Close n) g h = refl
+carry-apart j f line (Call n) g h = refl
+carry-apart j f line (Copy k) g h = refl

@@ -1,8 +1,63 @@
--- Blocks that call nothing: to them it is all one what a call does.
-use Prim.Native.Nat.{ℕ}
-use Rattle.aries.specs.Outcome.{refused}
-use Rattle.aries.specs.Macros.{Calls}
+-- Blocks that call nothing: to them it is all one what a call does. In a row they are carried out alike in a body and
+-- outside bodies.
+use mathlib.Core.Path.{_≡_}
+use mathlib.Core.Bool.{false}
+use mathlib.Core.List.{List}
+use Prim.Native.Nat.{ℕ, _+_, _<_, _≤_}
+use lib.IntN.{ℤ}
+use lib.ListN.{length, drop, take, getD}
+use Rattle.aries.specs.declared.block.Instruction.{Instruction}
+use Rattle.aries.specs.declared.setup.Program.{Program}
+use Rattle.aries.specs.declared.setup.Stage.the-variants.{Running}
+use Rattle.aries.specs.declared.state.Frame.{Frame}
+use Rattle.aries.specs.declared.state.Progress.{Progress}
+use Rattle.aries.specs.declared.state.Status.the-variants.{Passed}
+use Rattle.aries.specs.Outcome.{Out, done, refused}
+use Rattle.aries.specs.Text.{lines, lineFeed}
+use Rattle.aries.specs.Blocks.{decode}
+use Rattle.aries.specs.Hits.{Made, andThen, leaving}
+use Rattle.aries.specs.Judging.{Judging, mostBlocks}
+use Rattle.aries.specs.Macros.{Calls, runLines}
+use Rattle.aries.specs.Program.{runFrom}
+use Rattle.aries.specs.Runs.{Ran}
+use Rattle.aries.specs.Setup.{withProgress, ordinaryFrame}
+use Rattle.text.specs.Lines.{lineLength}
+use Rattle.decode.specs.Ordinary.{isOrdinary}
+use Rattle.bodies.specs.declared.ordinary.Stretch.{Stretch}
 
 -- a call where none is looked for
 abbrev pub noCalls : Calls
 noCalls n line g = refused 7 line
+
+-- a place of a text where a block starts, or its end, and a number that its line may have
+pub record AtBlock (t : List ℕ) (at line : ℕ) : Type 0 where
+  pub inside : at ≤ length t
+  pub numbered : line ≤ 65535 + at
+  pub block : at < length t → getD t at 0 ≡ lineFeed → ⊥
+
+-- With so many blocks carried out before it, a line has no ordinary block that may still come.
+abbrev pub ApartIn : List ℕ → ℕ → ℕ → Type 0
+ApartIn l line blocks = (i : Instruction) → blocks < mostBlocks → decode l line ≡ done i → isOrdinary (i .block) ≡ false
+
+-- the line at a place
+abbrev pub Apart : List ℕ → ℕ → ℕ → ℕ → Type 0
+Apart t at line blocks = ApartIn (take (lineLength (drop at t)) (drop at t)) line blocks
+
+-- What a row of ordinary blocks has made, from a place to another: whatever follows the row, in a body and outside bodies,
+-- follows what was made.
+pub record Row (j : Judging) (f : Frame) (t : List ℕ) (from first : ℕ) (g : Progress) (made : Out (Made Progress)) (at line : ℕ) : Type 0 where
+  pub in-body : (c : Calls) → runLines j c f first (lines (drop from t)) g ≡ andThen made (runLines j c f line (lines (drop at t)))
+  pub outside :
+      (p : Program) → p .stage ≡ Running → ordinaryFrame (p .setup) ≡ f → p .progress ≡ g
+      → runFrom j t from first (lines (drop from t)) p ≡ andThen (leaving (withProgress p) made) (runFrom j t at line (lines (drop at t)))
+
+-- A row of ordinary blocks that was carried out. It ends with a refusal, at the end of the text or at a block of another
+-- kind.
+pub record Stretches (j : Judging) (f : Frame) (t : List ℕ) (from first : ℕ) (g : Progress) (r : Stretch) (before after : List ℤ) : Type 0 where
+  pub made : Out (Made Progress)
+  pub ran : Ran (λ (h : Progress). h .hits) (r .status) (r .progress) before after (g .hits) made
+  pub row : Row j f t from first g made (r .at) (r .line)
+  pub stops : AtBlock t (r .at) (r .line)
+  pub advances : from ≤ r .at
+  pub paced : r .line + from ≤ first + r .at
+  pub apart : r .status ≡ Passed → r .at < length t → Apart t (r .at) (r .line) (r .progress .blocks)

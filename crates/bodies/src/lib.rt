@@ -9,18 +9,46 @@ use aries::state::Outcome;
 use aries::state::Progress;
 use aries::state::Status;
 ghost use mathlib.Core.Path.{_≡_};
+ghost use mathlib.Core.Bool.{false};
 ghost use Prim.Native.Nat.{_≤_, _<_};
-ghost use lib.ListN.{length};
+ghost use lib.ListN.{length, drop};
 ghost use Rattle.aries.specs.Judging.{lent};
-ghost use Rattle.aries.specs.Macros.{Within, call, carry, runBlock, runBody};
+ghost use Rattle.aries.specs.Macros.{Within, call, carry, runBlock, runLines};
 ghost use Rattle.aries.specs.Runs.{Carried};
+ghost use Rattle.aries.specs.Text.{lines};
+ghost use Rattle.decode.specs.Ordinary.{isOrdinary};
+ghost use Rattle.bodies.specs.Ordinary.{AtBlock, ApartIn};
+ghost use Rattle.bodies.specs.Opening.{Opens};
 
-pub mod ordinary; // blocks that call nothing
+pub mod ordinary; // blocks that call nothing, one or in a row
 
 // The most blocks that are carried out.
 pub const MOST_BLOCKS: u32 = 100_000;
 
-// A block that has been decoded and counted, with so many calls left to open.
+// The most calls that are open at a time.
+pub const MOST_CALLS: u8 = 4;
+
+// The calls that a body may still open when its own is the only one.
+pub const FURTHER_CALLS: u8 = 3;
+
+// Where the first block of a body starts, or the body ends, and the number of that line.
+pub struct Opening {
+    pub at: usize,
+    pub line: u64,
+}
+
+// The opening of a body whose first line has a number.
+pub fn first_block(body: &[u8], first: u16) -> Opening
+    ensures { λ r. ⌜ Opens (now (body .entry)) first r ⌝ }
+{
+    let at = text::next_block(body, 0);
+    Opening {
+        at,
+        line: (first as u64) + (at as u64),
+    }
+}
+
+// A block that is not ordinary, decoded and counted, with so many calls left to open: W, or one that is out of place.
 pub fn run_block(
     depth: u8,
     list: &mut [i32],
@@ -31,11 +59,11 @@ pub fn run_block(
     line: u64,
     progress: Progress,
 ) -> Outcome
-    requires { ⌜ Within macros (length (now text)) ⌝ }
+    requires { ⌜ (Within macros (length (now text))) × (isOrdinary block ≡ false) ⌝ }
     ensures { λ r. ⌜ Carried r (now (list .entry)) (now (list .exit)) (progress .hits) (carry (lent (length (now (list .entry)))) (call (lent (length (now (list .entry)))) (now (text .entry)) macros frame depth) frame line block progress) ⌝ }
 {
     let Block::Call(number) = block else {
-        return ordinary::carry(list, frame, line, block, progress);
+        return Outcome::refused(refusal::OUT_OF_PLACE, line, progress);
     };
     let found = macros.find(number);
     let Found::Body(start, end, first) = found else {
@@ -44,20 +72,22 @@ pub fn run_block(
     if depth == 0 {
         return Outcome::refused(refusal::TOO_DEEP, line, progress);
     }
+    let opening = first_block(&text[start..end], first);
     run_body(
         depth - 1,
         list,
         text,
         &text[start..end],
+        opening.at,
+        opening.line,
         macros,
         frame,
-        first,
         progress,
     )
 }
 
-// The block of a line: counted, decoded and carried out.
-pub fn run_line(
+// The block of a line, if it is not ordinary: counted, decoded and carried out.
+fn run_line(
     depth: u8,
     list: &mut [i32],
     text: &[u8],
@@ -67,7 +97,7 @@ pub fn run_line(
     line: u64,
     progress: Progress,
 ) -> Outcome
-    requires { ⌜ Within macros (length (now text)) ⌝ }
+    requires { ⌜ (Within macros (length (now text))) × (ApartIn (now bytes) line (progress .blocks)) ⌝ }
     ensures { λ r. ⌜ Carried r (now (list .entry)) (now (list .exit)) (progress .hits) (runBlock (lent (length (now (list .entry)))) (call (lent (length (now (list .entry)))) (now (text .entry)) macros frame depth) frame line (now (bytes .entry)) progress) ⌝ }
 {
     if MOST_BLOCKS <= progress.blocks {
@@ -85,34 +115,55 @@ pub fn run_line(
     }
 }
 
-// A body, line after line up to the first refusal, with so many calls left to open; its first line has a number.
+// A body from a place on where a block starts, up to the first refusal, with so many calls left to open. Ordinary blocks
+// are carried out in a row; any other is looked at by itself, since only a call needs the stored bodies.
 pub fn run_body(
     depth: u8,
     list: &mut [i32],
     text: &[u8],
     body: &[u8],
+    from: usize,
+    first: u64,
     macros: Macros,
     frame: Frame,
-    first: u16,
     progress: Progress,
 ) -> Outcome
-    requires { ⌜ Within macros (length (now text)) ⌝ }
-    ensures { λ r. ⌜ Carried r (now (list .entry)) (now (list .exit)) (progress .hits) (runBody (lent (length (now (list .entry)))) (now (text .entry)) macros depth frame first (now (body .entry)) progress) ⌝ }
+    requires { ⌜ (Within macros (length (now text))) × (AtBlock (now body) from first) ⌝ }
+    ensures { λ r. ⌜ Carried r (now (list .entry)) (now (list .exit)) (progress .hits) (runLines (lent (length (now (list .entry)))) (call (lent (length (now (list .entry)))) (now (text .entry)) macros frame depth) frame first (lines (drop from (now (body .entry)))) progress) ⌝ }
 {
     let mut now = progress;
-    let mut at = text::next_block(body, 0);
-    let mut line = (first as u64) + (at as u64);
+    let mut at = from;
+    let mut line = first;
     while at < body.len() {
-        let end = text::line_end(body, at);
-        let outcome = run_line(depth, list, text, &body[at..end], macros, frame, line, now);
-        let status = outcome.status;
-        if let Status::Refused(_, _) = status {
+        let row = ordinary::run_ordinary(list, body, at, line, frame, now);
+        let left = row.progress;
+        let status = row.status;
+        if let Status::Refused(refusal, place) = status {
+            return Outcome::refused(refusal, place, left);
+        }
+        let stop = row.at;
+        if stop == body.len() {
+            return Outcome::passed(left);
+        }
+        let end = text::line_end(body, stop);
+        let number = row.line;
+        let outcome = run_line(
+            depth,
+            list,
+            text,
+            &body[stop..end],
+            macros,
+            frame,
+            number,
+            left,
+        );
+        let ended = outcome.status;
+        if let Status::Refused(_, _) = ended {
             return outcome;
         }
         now = outcome.progress;
-        let next = text::next_block(body, end);
-        line += (next - end) as u64;
-        at = next;
+        at = text::next_block(body, end);
+        line = number + ((at - end) as u64);
     }
     Outcome::passed(now)
 }

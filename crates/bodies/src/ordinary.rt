@@ -1,13 +1,21 @@
+use crate::MOST_BLOCKS;
 use aries::block::Block;
+use aries::block::Judged;
 use aries::refusal;
 use aries::state::Frame;
 use aries::state::Outcome;
 use aries::state::Progress;
+use aries::state::Status;
+use blocks::request::block_of;
+ghost use mathlib.Core.Path.{_≡_};
+ghost use Prim.Native.Nat.{_≤_};
 ghost use lib.ListN.{length};
+ghost use Rattle.aries.specs.declared.state.Status.the-variants.{Passed};
 ghost use Rattle.aries.specs.Judging.{lent};
 ghost use Rattle.aries.specs.Macros.{carry};
 ghost use Rattle.aries.specs.Runs.{Carried};
-ghost use Rattle.bodies.specs.Ordinary.{noCalls};
+ghost use Rattle.decode.specs.Ordinary.{isOrdinary};
+ghost use Rattle.bodies.specs.Ordinary.{noCalls, AtBlock, Stretches};
 
 // A block that calls nothing; a W block is left to the caller and out of place here.
 pub fn carry(list: &mut [i32], frame: Frame, line: u64, block: Block, progress: Progress) -> Outcome
@@ -34,4 +42,92 @@ pub fn carry(list: &mut [i32], frame: Frame, line: u64, block: Block, progress: 
         Block::Idle => Outcome::passed(progress),
         _ => Outcome::refused(refusal::OUT_OF_PLACE, line, progress),
     }
+}
+
+// Whether a block is one that calls nothing and may stand in a body.
+fn is_ordinary(block: Block) -> bool
+    ensures { λ r. ⌜ r ≡ isOrdinary block ⌝ }
+{
+    match block {
+        Block::Read => true,
+        Block::Punch(_, _) => true,
+        Block::Move(_, _) => true,
+        Block::Origin(_) => true,
+        Block::Run(_, _, _) => true,
+        Block::Recall(_) => true,
+        Block::Nibble(_) => true,
+        Block::Idle => true,
+        _ => false,
+    }
+}
+
+// Where a row of ordinary blocks ends, and what it leaves. After a refusal the progress is of no account.
+pub struct Stretch {
+    pub status: Status,
+    pub progress: Progress,
+    pub at: usize,
+    pub line: u64,
+}
+
+impl Stretch {
+    // All blocks before a place went well.
+    fn up_to(at: usize, line: u64, progress: Progress) -> Stretch
+        ensures { λ r. ⌜ r ≡ record { status = Passed; progress = progress; at = at; line = line } ⌝ }
+    {
+        Stretch {
+            status: Status::Passed,
+            progress,
+            at,
+            line,
+        }
+    }
+}
+
+// Ordinary blocks in a row, from one at a place on: up to a refusal, the end of the text or a block that is not ordinary
+// or has a refusal of its own.
+pub fn run_ordinary(
+    list: &mut [i32],
+    text: &[u8],
+    from: usize,
+    first: u64,
+    frame: Frame,
+    progress: Progress,
+) -> Stretch
+    requires { ⌜ AtBlock (now text) from first ⌝ }
+    ensures { λ r. ⌜ Stretches (lent (length (now (list .entry)))) frame (now (text .entry)) from first progress r (now (list .entry)) (now (list .exit)) ⌝ }
+{
+    let mut now = progress;
+    let mut at = from;
+    let mut line = first;
+    while at < text.len() {
+        let end = text::line_end(text, at);
+        if MOST_BLOCKS <= now.blocks {
+            return Stretch::up_to(at, line, now);
+        }
+        let mut forms = [0; 26];
+        let mut numbers = [0; 26];
+        let judged = decode::judge(&text[at..end], &mut forms, &mut numbers);
+        let Judged::Of(kind, measure) = judged else {
+            return Stretch::up_to(at, line, now);
+        };
+        let block = block_of(&forms, &numbers, kind);
+        if !is_ordinary(block) {
+            return Stretch::up_to(at, line, now);
+        }
+        let outcome = carry(list, frame, line, block, now.begun(measure));
+        let status = outcome.status;
+        now = outcome.progress;
+        if let Status::Refused(_, _) = status {
+            return Stretch {
+                status,
+                progress: now,
+                at,
+                line,
+            };
+        }
+        let next = text::next_block(text, end);
+        line += (next - end) as u64;
+        at = next;
+    }
+    Stretch::up_to(at, line, now)
 }

@@ -20,9 +20,8 @@ use Rattle.aries.specs.Judging.{Judging, lent, near}
 use Rattle.aries.specs.Layouts.{Part, copyStart, frameAt, copy, copyAll}
 use Rattle.aries.specs.Moves.{withState}
 use Rattle.aries.specs.Runs.{Ran}
-use Rattle.aries.proofs.Runs.{ran-as, ran-refused, Leads, leads-as, leads-on, leads-out}
+use Rattle.aries.proofs.Runs.{still-then, ran-as, ran-refused, Leads, leads-as, leads-on, leads-out}
 use Rattle.copies.specs.Copying.{blankPart}
-use Rattle.copies.proofs.RunBody.{still-then}
 
 -- the hits counted by a progress
 abbrev pub hits : Progress → ℕ

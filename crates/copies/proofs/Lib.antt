@@ -1,4 +1,3 @@
 pub mod CopyAll
 pub mod CopyPart
 pub mod CopyPlace
-pub mod RunBody

@@ -1,6 +1,7 @@
 -- A run over the places of a layout, lane by lane, by what carries the part out.
 use mathlib.Core.List.{List}
-use Prim.Native.Nat.{ℕ}
+use Prim.Native.Nat.{ℕ, _-_}
+use lib.ListN.{drop}
 use Rattle.aries.specs.declared.block.Copies.{Copies}
 use Rattle.aries.specs.declared.block.Layout.{Layout}
 use Rattle.aries.specs.declared.macros.Macros.{Macros}
@@ -10,8 +11,10 @@ use Rattle.aries.specs.Outcome.{Out}
 use Rattle.aries.specs.Test.{pick}
 use Rattle.aries.specs.Hits.{Made, still}
 use Rattle.aries.specs.Judging.{Judging}
-use Rattle.aries.specs.Macros.{runBody}
+use Rattle.aries.specs.Macros.{call, mostCalls, runLines, runBody}
+use Rattle.aries.specs.Text.{lines}
 use Rattle.aries.specs.Setup.{ordinaryFrame}
+use Rattle.bodies.specs.declared.Opening.{Opening}
 use Rattle.aries.specs.Layouts.{Part, copyCount, copyPlace, copyAll}
 
 -- the last place of a lane: G75 goes along X, row by row, G76 along Y, column by column
@@ -24,7 +27,11 @@ lastLane l c = pick (c .vertical) (l .steps .x) (l .steps .y)
 
 -- a body as the part that is copied, with one call open
 abbrev pub bodyPart : Judging → List ℕ → Macros → ℕ → List ℕ → Part
-bodyPart j text m first body f g = runBody j text m 3 f first body g
+bodyPart j text m first body f g = runBody j text m (mostCalls - 1) f first body g
+
+-- the same from the body's first block on
+abbrev pub openedPart : Judging → List ℕ → Macros → Opening → List ℕ → Part
+openedPart j text m o body f g = runLines j (call j text m f (mostCalls - 1)) f (o .line) (lines (drop (o .at) body)) g
 
 -- a part without a block
 abbrev pub blankPart : Part

@@ -7,22 +7,12 @@ use aries::setup::Setup;
 use aries::state::Outcome;
 use aries::state::Progress;
 use lanes::Cursor;
-ghost use mathlib.Core.Path.{_≡_};
 ghost use mathlib.Core.List.{List};
-ghost use lib.Dec.{ltb};
 ghost use lib.IntN.{ℤ};
 ghost use lib.ListN.{length};
 ghost use Rattle.aries.specs.Judging.{lent};
 ghost use Rattle.aries.specs.Runs.{Carried};
-ghost use Rattle.text.specs.Lines.{blanks};
 ghost use Rattle.copies.specs.Copying.{blankPart, allCopies};
-
-// Whether a body has a block.
-pub fn has_block(body: &[u8]) -> bool
-    ensures { λ r. ⌜ r ≡ ltb (blanks (now (body .entry))) (length (now (body .entry))) ⌝ }
-{
-    text::next_block(body, 0) < body.len()
-}
 
 // Copies a part without a block: each place is judged, and the state is that of the last copy. No hit is made, so the
 // list is not asked for.

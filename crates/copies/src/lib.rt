@@ -11,6 +11,7 @@ use aries::state::Outcome;
 use aries::state::Progress;
 use aries::state::State;
 use aries::state::Status;
+use bodies::Opening;
 use lanes::Cursor;
 ghost use mathlib.Core.Path.{_≡_};
 ghost use lib.ListN.{length};
@@ -18,13 +19,11 @@ ghost use Rattle.aries.specs.Judging.{lent};
 ghost use Rattle.aries.specs.Layouts.{copyStart, copyPart};
 ghost use Rattle.aries.specs.Macros.{Within};
 ghost use Rattle.aries.specs.Runs.{Carried};
-ghost use Rattle.copies.specs.Copying.{bodyPart, allCopies};
+ghost use Rattle.bodies.specs.Ordinary.{AtBlock};
+ghost use Rattle.copies.specs.Copying.{openedPart, allCopies};
 
 pub mod blank; // copies of a part without a block
 pub mod places; // where the copies lie, and in which order
-
-// The calls that a part may still open, its own being one of four.
-const FURTHER_CALLS: u8 = 3;
 
 // The state that a copy begins with: the one found, at the copy's own place, and no pattern origin waits.
 pub fn copy_start(found: State, place: Point) -> State
@@ -33,20 +32,21 @@ pub fn copy_start(found: State, place: Point) -> State
     found.dropping().moved_to(place)
 }
 
-// Copies a part, place after place up to the first refusal. Each copy begins with the state found.
+// Copies a part, place after place up to the first refusal. Each copy begins with the state found, at the body's first
+// block, which has been looked for once.
 fn copy_body(
     list: &mut [i32],
     text: &[u8],
     body: &[u8],
-    first: u16,
+    opening: Opening,
     setup: Setup,
     line: u64,
     layout: Layout,
     copies: Copies,
     progress: Progress,
 ) -> Outcome
-    requires { ⌜ Within (setup .macros) (length (now text)) ⌝ }
-    ensures { λ r. ⌜ Carried r (now (list .entry)) (now (list .exit)) (progress .hits) (allCopies (lent (length (now (list .entry)))) (bodyPart (lent (length (now (list .entry)))) (now (text .entry)) (setup .macros) first (now (body .entry))) setup line layout copies progress) ⌝ }
+    requires { ⌜ (Within (setup .macros) (length (now text))) × (AtBlock (now body) (opening .at) (opening .line)) ⌝ }
+    ensures { λ r. ⌜ Carried r (now (list .entry)) (now (list .exit)) (progress .hits) (allCopies (lent (length (now (list .entry)))) (openedPart (lent (length (now (list .entry)))) (now (text .entry)) (setup .macros) opening (now (body .entry))) setup line layout copies progress) ⌝ }
 {
     let macros = setup.macros;
     let machine = setup.machine;
@@ -69,13 +69,14 @@ fn copy_body(
         };
         let begun = now.with_state(copy_start(found, point));
         let outcome = bodies::run_body(
-            FURTHER_CALLS,
+            bodies::FURTHER_CALLS,
             list,
             text,
             body,
+            opening.at,
+            opening.line,
             macros,
             frame,
-            first,
             begun,
         );
         let status = outcome.status;
@@ -110,12 +111,13 @@ pub fn copy_part(
     let Sheet::LaidOut(layout) = sheet else {
         return Outcome::refused(refusal::NO_LAYOUT, line, progress);
     };
-    if blank::has_block(&text[start..end]) {
+    let opening = bodies::first_block(&text[start..end], first);
+    if opening.at < end - start {
         copy_body(
             list,
             text,
             &text[start..end],
-            first,
+            opening,
             setup,
             line,
             layout,

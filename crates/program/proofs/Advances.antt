@@ -13,7 +13,7 @@ use Rattle.aries.specs.Hits.{Made, still, leaving}
 use Rattle.aries.specs.Setup.{withProgress}
 use Rattle.aries.specs.Runs.{Carried, Advanced}
 use Rattle.aries.proofs.Runs.{ran-refused, ran-still, ran-leaving}
-use Rattle.program.proofs.TextRuns.{hits}
+use Rattle.bodies.proofs.TextRuns.{hits}
 
 -- a refusal on both sides
 pub advanced-refused :

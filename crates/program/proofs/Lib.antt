@@ -1,5 +1,4 @@
 pub mod Advances
-pub mod OutsideBlocks
+pub mod Rows
 pub mod SettingUp
 pub mod StoredBodies
-pub mod TextRuns

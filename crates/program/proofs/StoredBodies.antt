@@ -17,7 +17,7 @@ use Rattle.aries.specs.Program.{runLineOutside}
 use Rattle.aries.specs.Runs.{Ran}
 use Rattle.aries.proofs.Runs.{passed-done}
 use Rattle.storing.proofs.Within.{OneLength, line-keeps-within}
-use Rattle.program.proofs.TextRuns.{hits}
+use Rattle.bodies.proofs.TextRuns.{hits}
 
 -- stored bodies within a text of so many bytes
 pub record Stored (m : Macros) (bytes : ℕ) : Type 0 where

@@ -7,6 +7,7 @@ use aries::setup::Program;
 use aries::setup::Stage;
 use aries::state::Progress;
 use aries::state::Status;
+use bodies::ordinary::run_ordinary;
 ghost use mathlib.Core.Path.{_≡_};
 ghost use Prim.Native.Nat.{ℕ, _≤_, _<_, _+_, _-_};
 ghost use lib.ListN.{length, drop, take, getD};
@@ -21,6 +22,9 @@ ghost use Rattle.aries.specs.Runs.{Advanced};
 ghost use Rattle.aries.specs.Setup.{freshProgram};
 ghost use Rattle.aries.specs.Test.{either, pick};
 ghost use Rattle.aries.specs.Text.{lines};
+ghost use Rattle.aries.specs.declared.setup.Stage.the-variants.{Running};
+ghost use Rattle.bodies.specs.Ordinary.{AtBlock, ApartIn};
+ghost use Rattle.program.specs.Rows.{Reaches};
 
 const LETTER_V: u8 = b'V';
 
@@ -46,7 +50,8 @@ fn begin(first: u8, progress: Progress, measure: Measure) -> Progress
     progress.begun(measure)
 }
 
-// The block outside bodies that starts at a place of the text and ends at another.
+// The block outside bodies that starts at a place of the text and ends at another. While the program runs it is not
+// ordinary.
 fn run_block(
     list: &mut [i32],
     text: &[u8],
@@ -56,6 +61,7 @@ fn run_block(
     program: Program,
 ) -> Advance
     requires { ⌜ (Within (program .setup .macros) (length (now text))) × ((length (now text) ≤ 60000) × ((line < 65535) × ((at < end) × (end ≤ length (now text))))) ⌝ }
+    requires { ⌜ (program .stage ≡ Running → ApartIn (take (end - at) (drop at (now text))) line (program .progress .blocks)) ⌝ }
     ensures { λ r. ⌜ Advanced r (now (list .entry)) (now (list .exit)) (program .progress .hits) (runBlockOutside (lent (length (now (list .entry)))) (now (text .entry)) (end + 1) line (take (end - at) (drop at (now (text .entry)))) (lines (drop (end + 1) (now (text .entry)))) program) ⌝ }
 {
     let progress = program.progress;
@@ -89,6 +95,7 @@ fn run_line(
     program: Program,
 ) -> Advance
     requires { ⌜ (Within (program .setup .macros) (length (now text))) × ((length (now text) ≤ 60000) × ((line < 65535) × ((at < end) × (end ≤ length (now text))))) ⌝ }
+    requires { ⌜ (program .stage ≡ Running → ApartIn (take (end - at) (drop at (now text))) line (program .progress .blocks)) ⌝ }
     ensures { λ r. ⌜ Advanced r (now (list .entry)) (now (list .exit)) (program .progress .hits) (runLineOutside (lent (length (now (list .entry)))) (now (text .entry)) (end + 1) line (take (end - at) (drop at (now (text .entry)))) (lines (drop (end + 1) (now (text .entry)))) program) ⌝ }
 {
     let stage = program.stage;
@@ -101,6 +108,41 @@ fn run_line(
     Advance::passed(program)
 }
 
+// How far the lines outside bodies have come. After a refusal the program is of no account.
+struct Reached {
+    status: Status,
+    program: Program,
+    at: usize,
+    line: u64,
+}
+
+// The ordinary blocks that stand in a row at a place of the text, while the program runs.
+fn run_row(list: &mut [i32], text: &[u8], at: usize, line: u64, program: Program) -> Reached
+    requires { ⌜ AtBlock (now text) at line ⌝ }
+    ensures { λ r. ⌜ Reaches (lent (length (now (list .entry)))) (now (text .entry)) at line program r (now (list .entry)) (now (list .exit)) ⌝ }
+{
+    let stage = program.stage;
+    let Stage::Running = stage else {
+        return Reached {
+            status: Status::Passed,
+            program,
+            at,
+            line,
+        };
+    };
+    let setup = program.setup;
+    let progress = program.progress;
+    let row = run_ordinary(list, text, at, line, setup.frame(), progress);
+    let status = row.status;
+    let left = row.progress;
+    Reached {
+        status,
+        program: program.with_progress(left),
+        at: row.at,
+        line: row.line,
+    }
+}
+
 // A text without spaces, line after line up to the first refusal.
 pub fn run_text(list: &mut [i32], text: &[u8]) -> Advance
     requires { ⌜ length (now text) ≤ 60000 ⌝ }
@@ -110,16 +152,26 @@ pub fn run_text(list: &mut [i32], text: &[u8]) -> Advance
     let mut at = text::next_block(text, 0);
     let mut line = 1 + (at as u64);
     while at < text.len() {
-        let end = text::line_end(text, at);
-        let advance = run_line(list, text, at, end, line, now);
-        let status = advance.status;
-        if let Status::Refused(_, _) = status {
+        let row = run_row(list, text, at, line, now);
+        let left = row.program;
+        let status = row.status;
+        if let Status::Refused(refusal, place) = status {
+            return Advance::refused(refusal, place, left);
+        }
+        let stop = row.at;
+        if stop == text.len() {
+            return Advance::passed(left);
+        }
+        let end = text::line_end(text, stop);
+        let number = row.line;
+        let advance = run_line(list, text, stop, end, number, left);
+        let ended = advance.status;
+        if let Status::Refused(_, _) = ended {
             return advance;
         }
         now = advance.program;
-        let next = text::next_block(text, end);
-        line += (next - end) as u64;
-        at = next;
+        at = text::next_block(text, end);
+        line = number + ((at - end) as u64);
     }
     Advance::passed(now)
 }

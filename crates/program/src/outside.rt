@@ -9,7 +9,7 @@ use aries::setup::Stage;
 use aries::state::Outcome;
 use aries::state::Progress;
 ghost use mathlib.Core.Path.{_≡_};
-ghost use mathlib.Core.Bool.{Bool, true};
+ghost use mathlib.Core.Bool.{Bool, true, false};
 ghost use Prim.Native.Nat.{_≤_, _<_};
 ghost use lib.ListN.{length, drop};
 ghost use Rattle.aries.specs.Judging.{lent};
@@ -18,9 +18,7 @@ ghost use Rattle.aries.specs.Program.{isMachine, inPlace, carryOut};
 ghost use Rattle.aries.specs.Runs.{Advanced};
 ghost use Rattle.aries.specs.Setup.{withProgress};
 ghost use Rattle.aries.specs.Text.{lines};
-
-// The most calls that are open at a time.
-pub const MOST_CALLS: u8 = 4;
+ghost use Rattle.decode.specs.Ordinary.{isOrdinary};
 
 // Whether a block is G92.
 fn is_machine(block: Block) -> bool
@@ -57,7 +55,7 @@ fn advanced(program: Program, outcome: Outcome) -> Advance
     }
 }
 
-// A block outside bodies that has been decoded, counted and found in its place. The next line starts at a place.
+// A block outside bodies that is not ordinary, decoded, counted and found in its place. The next line starts at a place.
 pub fn carry_out(
     list: &mut [i32],
     text: &[u8],
@@ -66,7 +64,7 @@ pub fn carry_out(
     block: Block,
     program: Program,
 ) -> Advance
-    requires { ⌜ (Within (program .setup .macros) (length (now text))) × ((length (now text) ≤ 60000) × (line < 65535)) ⌝ }
+    requires { ⌜ (Within (program .setup .macros) (length (now text))) × ((length (now text) ≤ 60000) × ((line < 65535) × (isOrdinary block ≡ false))) ⌝ }
     ensures { λ r. ⌜ Advanced r (now (list .entry)) (now (list .exit)) (program .progress .hits) (carryOut (lent (length (now (list .entry)))) (now (text .entry)) next line (lines (drop next (now (text .entry)))) block program) ⌝ }
 {
     let setup = program.setup;
@@ -95,7 +93,7 @@ pub fn carry_out(
             advanced(
                 program,
                 bodies::run_block(
-                    MOST_CALLS,
+                    bodies::MOST_CALLS,
                     list,
                     text,
                     block,

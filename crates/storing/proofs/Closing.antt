@@ -1,66 +1,76 @@
--- Laws of a U line's own V: by what the line decodes to. Assumes nothing.
-use mathlib.Core.Path.{_≡_, refl, ap, _∙_}
-use mathlib.Core.Bool.{false}
+-- Laws of a U line's own V: by what the line is judged to be. Assumes nothing.
+use mathlib.Core.Path.{_≡_, refl, sym, ap, _∙_}
+use mathlib.Core.Bool.{Bool, true, false}
 use mathlib.Core.List.{List, [], _∷_}
 use Prim.Native.Nat.{ℕ}
-use native.Mathlib.Omega.{arith}
 use denote.Enum.Declared.{tagOf}
 use types.Run.{OneOf, miss}
 use lib.Dec.{eqb}
-use Rattle.aries.proofs.block.Block.{the-type}
-use Rattle.aries.specs.declared.block.Block.{Block}
-use Rattle.aries.specs.declared.block.Block.the-variants.{Machine, End, Read, Punch, Move, Origin, Offset, Place, Run, Recall, Nibble, Idle, Open, Close, Call, Copy}
-use Rattle.aries.specs.declared.block.Instruction.{Instruction}
-use Rattle.aries.specs.declared.block.Decoded.the-variants as Decoded
-use Rattle.aries.specs.Outcome.{Out, done, refused}
-use Rattle.aries.specs.Blocks.{decode}
+use Rattle.aries.proofs.block.Kind.{the-type}
+use Rattle.aries.specs.declared.word.Words.{Words}
+use Rattle.aries.specs.declared.block.Block.the-variants as Block
+use Rattle.aries.specs.declared.block.Kind.{Kind}
+use Rattle.aries.specs.declared.block.Kind.the-variants.{G26, G28, G29, G36, G37, G50, G70, G72, G75, G76, G92, G93, G98, Position, Lone, LetterM, LetterB, LetterU, LetterV, LetterW, Unknown}
+use Rattle.aries.specs.declared.block.Measure.{Measure}
+use Rattle.aries.specs.Letters.{letterM, letterV}
+use Rattle.aries.specs.Outcome.{done, refused}
+use Rattle.aries.specs.Test.{pick}
+use Rattle.aries.specs.Blocks.{count, mBlock, blockOf, decode}
 use Rattle.aries.specs.Bodies.{isClose, closes, isOwnClose}
-use Rattle.blocks.specs.Decoding.{decodedOf}
 
--- every block but V
-abbrev pub notCloses : List ℕ
-notCloses = 0 ∷ 1 ∷ 2 ∷ 3 ∷ 4 ∷ 5 ∷ 6 ∷ 7 ∷ 8 ∷ 9 ∷ 10 ∷ 11 ∷ 12 ∷ 14 ∷ 15 ∷ []
+-- every kind of block but V
+abbrev pub notV : List ℕ
+notV = 0 ∷ 1 ∷ 2 ∷ 3 ∷ 4 ∷ 5 ∷ 6 ∷ 7 ∷ 8 ∷ 9 ∷ 10 ∷ 11 ∷ 12 ∷ 13 ∷ 14 ∷ 15 ∷ 16 ∷ 17 ∷ 19 ∷ 20 ∷ []
 
--- they close nothing
-other-block : (n : ℕ) (b : Block) → OneOf notCloses (tagOf the-type b) → isClose n b ≡ false
-other-block n (Machine p) h = refl
-other-block n End h = refl
-other-block n Read h = refl
-other-block n (Punch a t) h = refl
-other-block n (Move a t) h = refl
-other-block n (Origin a) h = refl
-other-block n (Offset a) h = refl
-other-block n (Place l) h = refl
-other-block n (Run p t a) h = refl
-other-block n (Recall k) h = refl
-other-block n (Nibble b) h = refl
-other-block n Idle h = refl
-other-block n (Open k) h = refl
-other-block n (Close k) h = absurd (miss notCloses 13 tt h)
-other-block n (Call k) h = refl
-other-block n (Copy c) h = refl
+-- no M code closes a body
+no-m : (n m : ℕ) → isClose n (mBlock m) ≡ false
+no-m n m = go (eqb m 12) (eqb m 13)
+  where
+    go : (s t : Bool) → isClose n (pick s (Block.Nibble true) (pick t (Block.Nibble false) Block.Idle)) ≡ false
+    go true t = refl
+    go false true = refl
+    go false false = refl
 
--- by what the code decoded
-closes-refused : (n : ℕ) (out : Out Instruction) (number line : ℕ) → decodedOf out ≡ Decoded.Refused number line → closes n out ≡ false
-closes-refused n (done i) number line e = let z : _≡_ {A = ℕ} 0 1 = cc in absurd (omega arith)
-closes-refused n (refused k l) number line e = refl
-
-closes-done : (n : ℕ) (out : Out Instruction) (i : Instruction) → decodedOf out ≡ Decoded.Instruction i → closes n out ≡ isClose n (i .block)
-closes-done n (done k) i e = let a : k ≡ i = cc in ap (λ (j : Instruction). isClose n (j .block)) a
-closes-done n (refused k l) i e = let z : _≡_ {A = ℕ} 0 1 = cc in absurd (omega arith)
+-- nor does any of the other kinds
+other-kind : (n : ℕ) (w : Words) (k : Kind) → OneOf notV (tagOf the-type k) → isClose n (blockOf w k) ≡ false
+unfolding blockOf
+other-kind n w G26 h = refl
+other-kind n w G28 h = refl
+other-kind n w G29 h = refl
+other-kind n w G36 h = refl
+other-kind n w G37 h = refl
+other-kind n w G50 h = refl
+other-kind n w G70 h = refl
+other-kind n w G72 h = refl
+other-kind n w G75 h = refl
+other-kind n w G76 h = refl
+other-kind n w G92 h = refl
+other-kind n w G93 h = refl
+other-kind n w G98 h = refl
+other-kind n w Position h = refl
+other-kind n w Lone h = refl
+other-kind n w LetterM h = no-m n (count w letterM)
+other-kind n w LetterB h = refl
+other-kind n w LetterU h = refl
+other-kind n w LetterV h = absurd (miss notV 18 tt h)
+other-kind n w LetterW h = refl
+other-kind n w Unknown h = refl
 
 module _ (n : ℕ) (l : List ℕ) where
   -- a line that is refused
-  pub own-refused : (number line : ℕ) → decodedOf (decode l 0) ≡ Decoded.Refused number line → isOwnClose n l ≡ false
+  pub own-refused : (number : ℕ) → decode l 0 ≡ refused number 0 → isOwnClose n l ≡ false
   unfolding isOwnClose
-  own-refused number line e = closes-refused n (decode l 0) number line e
+  own-refused number e = ap (closes n) e
 
-  -- a line of another block
-  pub own-other : (i : Instruction) → decodedOf (decode l 0) ≡ Decoded.Instruction i → OneOf notCloses (tagOf the-type (i .block)) → isOwnClose n l ≡ false
-  unfolding isOwnClose
-  own-other i e h = closes-done n (decode l 0) i e ∙ other-block n (i .block) h
+  -- a line that is judged to be of a kind
+  module _ (w : Words) (k : Kind) (m : Measure) (e : decode l 0 ≡ done (record { measure = m; block = blockOf w k })) where
+    -- other than V
+    pub own-other : OneOf notV (tagOf the-type k) → isOwnClose n l ≡ false
+    unfolding isOwnClose
+    own-other h = ap (closes n) e ∙ other-kind n w k h
 
-  -- a V line
-  pub own-close : (i : Instruction) (k : ℕ) → decodedOf (decode l 0) ≡ Decoded.Instruction i → i .block ≡ Close k → isOwnClose n l ≡ eqb k n
-  unfolding isOwnClose
-  own-close i k e b = closes-done n (decode l 0) i e ∙ ap (isClose n) b
+    -- a V line, by its number
+    pub own-close : (number : ℕ) → k ≡ LetterV → number ≡ count w letterV → isOwnClose n l ≡ eqb number n
+    unfolding isOwnClose blockOf
+    own-close number v f =
+        ap (closes n) e ∙ ap (λ (j : Kind). isClose n (blockOf w j)) v ∙ ap (λ (x : ℕ). eqb x n) (sym f)

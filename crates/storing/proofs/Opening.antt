@@ -15,7 +15,7 @@ use Rattle.aries.specs.declared.state.Frame.{Frame}
 use Rattle.aries.specs.Outcome.{Out, refused, _>>=_, need}
 use Rattle.aries.specs.Hits.{Made, still, leaving}
 use Rattle.aries.specs.Judging.{Judging}
-use Rattle.aries.specs.Macros.{storing, characters, runBody}
+use Rattle.aries.specs.Macros.{storing, characters, mostCalls, runBody}
 use Rattle.aries.specs.Bodies.{bodySize}
 use Rattle.aries.specs.Setup.{ordinaryFrame, mostCharacters, runsFirst, firstRun, stored, openBody}
 
@@ -24,7 +24,7 @@ use Rattle.aries.specs.Setup.{ordinaryFrame, mostCharacters, runsFirst, firstRu
 module _ (j : Judging) (text : List ℕ) (n start size line : ℕ) (p : Program) where
   -- in the ordinary frame, from the line after the U line on
   pub runs-once : (f : Frame) → f ≡ ordinaryFrame (p .setup) → runsFirst n (p .setup .sheet) ≡ true
-      → firstRun j text n start size line p ≡ runBody j text (p .setup .macros) 3 f (line + 1) (take size (drop start text)) (p .progress)
+      → firstRun j text n start size line p ≡ runBody j text (p .setup .macros) (mostCalls - 1) f (line + 1) (take size (drop start text)) (p .progress)
   unfolding firstRun
   runs-once f o e = rw (o, add-one line) (simp (firstRun, e))
 

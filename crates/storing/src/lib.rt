@@ -1,11 +1,13 @@
 // U lines: where the body ends, its first run, and storing it.
-use aries::block::Block;
-use aries::block::Decoded;
+use aries::block::Judged;
+use aries::block::Kind;
 use aries::refusal;
 use aries::setup::Advance;
 use aries::setup::Program;
 use aries::setup::Sheet;
 use aries::state::Outcome;
+use blocks::lookup::size_of;
+use blocks::lookup::word_at;
 ghost use mathlib.Core.Path.{_≡_};
 ghost use Prim.Native.Nat.{_-_, _≤_, _<_};
 ghost use lib.ListN.{length, drop};
@@ -33,17 +35,16 @@ pub enum Size {
 fn is_own_close(number: u8, line: &[u8]) -> bool
     ensures { λ r. ⌜ r ≡ isOwnClose number (now (line .entry)) ⌝ }
 {
-    let decoded = decode::decode(line, 0);
-    match decoded {
-        Decoded::Refused(_, _) => false,
-        Decoded::Instruction(instruction) => {
-            let block = instruction.block;
-            let Block::Close(closed) = block else {
-                return false;
-            };
-            closed == number
-        }
-    }
+    let mut forms = [0; 26];
+    let mut numbers = [0; 26];
+    let judged = decode::judge(line, &mut forms, &mut numbers);
+    let Judged::Of(kind, _) = judged else {
+        return false;
+    };
+    let Kind::LetterV = kind else {
+        return false;
+    };
+    size_of(word_at(&forms, &numbers, b'V')) == (number as u32)
 }
 
 // Whether a line that starts with a byte is a U or V line.
@@ -105,14 +106,16 @@ fn first_run(
     }
     let macros = setup.macros;
     let first = (line + 1) as u16;
+    let opening = bodies::first_block(&text[start..end], first);
     bodies::run_body(
-        3,
+        bodies::FURTHER_CALLS,
         list,
         text,
         &text[start..end],
+        opening.at,
+        opening.line,
         macros,
         setup.frame(),
-        first,
         progress,
     )
 }

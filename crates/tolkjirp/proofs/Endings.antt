@@ -30,10 +30,13 @@ use Rattle.aries.proofs.Runs.{passed-done}
 use Rattle.text.specs.declared.Cleaned.{Cleaned}
 use Rattle.text.specs.declared.Cleaned.the-variants.{Stray, Dense}
 use Rattle.text.specs.Cleaning.{cleaned}
-use Rattle.program.proofs.TextRuns.{hits}
 use Rattle.tolkjirp.specs.Answers.{Answers}
 use Rattle.tolkjirp.specs.Cleaned.{afterCleaning}
 use Rattle.tolkjirp.proofs.Lists.{cleared-past}
+
+-- the hits counted by a program
+abbrev pub hits : Program → ℕ
+hits p = p .progress .hits
 
 -- ---- Answers
 

@@ -16,24 +16,24 @@ use Rattle.aries.specs.Setup.{ordinaryFrame}
 use Rattle.aries.proofs.Runs.{Leads, leads-start, leads-as, leads-end}
 use Rattle.lanes.specs.Cursors.{cursorAt}
 use Rattle.lanes.proofs.Cursors.{at-zero}
-use Rattle.copies.specs.Copying.{bodyPart}
+use Rattle.copies.specs.Copying.{openedPart}
 use Rattle.copies.proofs.CopyPlace.{cursor-inside, place-here, may-advance, advanced}
 use Rattle.copies.proofs.CopyAll.{hits, copies-end, turn-far, turn-refused, turn-passed}
 use Rattle.copies.proofs.copy_body.Statement.{statement}
 use Rattle.copies.proofs.copy_body.Tie as tie
 
 abbrev Inv-loop : tie.InvT-loop
-Inv-loop list₀ text body first line layout copies macros machine origin found last count now₀ cursor₀ m₀ list now cursor m =
+Inv-loop list₀ text body opening line layout copies macros machine origin found last count now₀ cursor₀ m₀ list now cursor m =
     (m ≤ count)
     × (m < count → cursor ≡ cursorAt last m)
     × (length list ≡ length list₀)
     × Leads hits list (now .hits)
-    (copyAll (lent (length list₀)) (bodyPart (lent (length list₀)) text macros first body) (record { machine = machine; origin = origin }) line found (copyPlace origin layout copies) (count - m) m now)
+    (copyAll (lent (length list₀)) (openedPart (lent (length list₀)) text macros opening body) (record { machine = machine; origin = origin }) line found (copyPlace origin layout copies) (count - m) m now)
     list₀ (now₀ .hits)
-    (copyAll (lent (length list₀)) (bodyPart (lent (length list₀)) text macros first body) (record { machine = machine; origin = origin }) line found (copyPlace origin layout copies) (copyCount layout) 0 now₀)
+    (copyAll (lent (length list₀)) (openedPart (lent (length list₀)) text macros opening body) (record { machine = machine; origin = origin }) line found (copyPlace origin layout copies) (copyCount layout) 0 now₀)
 
 abbrev μ-loop : tie.MeasureT-loop
-μ-loop list₀ text body first line layout copies macros machine origin found last count now₀ cursor₀ m₀ list now cursor m = count - m
+μ-loop list₀ text body opening line layout copies macros machine origin found last count now₀ cursor₀ m₀ list now cursor m = count - m
 
 -- steps are 16 bits wide
 steps-fit : (c : tie.Start Inv-loop μ-loop) → (c .args .layout .steps .x ≤ 65535) × (c .args .layout .steps .y ≤ 65535)
@@ -64,7 +64,7 @@ begins c = c .with-state .ensures ∙ ap (withState (c .before .before .before .
 -- and carries the body out
 ran : (c : tie.After-run-body Inv-loop μ-loop) → let a = c .before .before .before .before .before .before .before .before .before .before .before .before .before .before .before .before .before .before .args in let n = length (a .list .now) in let b = c .run-body in
     Ran hits (b .result .status) (b .result .progress) (c .before .before .before .before .before .before .before .before .before .loop .list) (b .last .1 .0) (c .before .before .with-state .result .hits)
-    (bodyPart (lent n) (a .text .now) (a .setup .macros) (a .first) (a .body .now) (frameAt (ordinaryFrame (a .setup)) (c .before .before .before .before .point .result)) (c .before .before .with-state .result))
+    (openedPart (lent n) (a .text .now) (a .setup .macros) (a .opening) (a .body .now) (frameAt (ordinaryFrame (a .setup)) (c .before .before .before .before .point .result)) (c .before .before .with-state .result))
 ran c = rw (c .before .before .before .before .before .before .before .before .before .loop .inv .2) at (c .run-body .ensures)
 
 lane-end-requires : tie.Need-lane-end-requires Inv-loop μ-loop
@@ -84,7 +84,7 @@ loop-holds c =
       λ h. c .first .ensures ∙ sym (at-zero (c .before .before .lane-end .result)),
       refl,
       leads-start hits (a .list .now) (a .progress .hits) _
-          (ap (λ (k : ℕ). copyAll (lent (length (a .list .now))) (bodyPart (lent (length (a .list .now))) (a .text .now) (a .setup .macros) (a .first) (a .body .now)) (ordinaryFrame (a .setup)) (a .line) (a .progress .state) (copyPlace (a .setup .origin) (a .layout) (a .copies)) k 0 (a .progress)) e),
+          (ap (λ (k : ℕ). copyAll (lent (length (a .list .now))) (openedPart (lent (length (a .list .now))) (a .text .now) (a .setup .macros) (a .opening) (a .body .now)) (ordinaryFrame (a .setup)) (a .line) (a .progress .state) (copyPlace (a .setup .origin) (a .layout) (a .copies)) k 0 (a .progress)) e),
     )
 
 copy-place-requires : tie.Need-copy-place-requires Inv-loop μ-loop
@@ -109,7 +109,7 @@ returns c =
     let a = c .before .before .before .before .before .before .before .before .before .before .before .before .before .before .args in
     let p = c .before .before .before .before .before .loop in
     rw (c .refused .ensures)
-    (turn-far (length (a .list .now)) (bodyPart (lent (length (a .list .now))) (a .text .now) (a .setup .macros) (a .first) (a .body .now)) (ordinaryFrame (a .setup)) (a .line) (a .progress .state)
+    (turn-far (length (a .list .now)) (openedPart (lent (length (a .list .now))) (a .text .now) (a .setup .macros) (a .opening) (a .body .now)) (ordinaryFrame (a .setup)) (a .line) (a .progress .state)
     (copyPlace (a .setup .origin) (a .layout) (a .copies)) (c .before .before .before .before .before .before .before .copy-count .result) (p .m) (p .now) (p .list) (a .list .now) (a .progress .hits) _ (c .before .before .before .before .loop-test .taken) (p .inv .3) (is-far (c .before)))
 
 point-requires : tie.Need-point-requires Inv-loop μ-loop
@@ -135,7 +135,7 @@ returns-2 c =
     let a = c .before .before .before .before .before .before .before .before .before .before .before .before .before .before .before .before .before .before .before .before .before .args in
     let p = c .before .before .before .before .before .before .before .before .before .before .before .before .loop in
     let b = c .before .before .before .run-body in
-    turn-refused (length (a .list .now)) (bodyPart (lent (length (a .list .now))) (a .text .now) (a .setup .macros) (a .first) (a .body .now)) (ordinaryFrame (a .setup)) (a .line) (a .progress .state)
+    turn-refused (length (a .list .now)) (openedPart (lent (length (a .list .now))) (a .text .now) (a .setup .macros) (a .opening) (a .body .now)) (ordinaryFrame (a .setup)) (a .line) (a .progress .state)
     (copyPlace (a .setup .origin) (a .layout) (a .copies)) (c .before .before .before .before .before .before .before .before .before .before .before .before .before .before .copy-count .result) (p .m) (p .now) (p .list) (a .list .now) (a .progress .hits) _ (c .before .before .before .before .before .before .before .before .before .before .before .loop-test .taken) (p .inv .3)
     (c .before .before .before .before .before .before .before .point .result) (c .before .before .before .before .before .with-state .result) (b .result .progress) (b .result .status) (b .last .1 .0) (lies (c .before .before .before .before .before .before .before)) (begins (c .before .before .before .before .before)) (is-close (c .before .before .before .before .before .before .before .before)) (ran (c .before .before .before)) _ _ (c .enum-told .given .1)
 
@@ -167,7 +167,7 @@ loop-again c =
       omega (arith, c .before .before .before .before .before .before .before .before .before .before .before .before .before .loop-test .taken),
       advanced (a .layout) (a .copies) (l .result) (n .result) (p .m) (p .cursor) (l .ensures) (n .ensures) (c .before .before .before .before .before .before .before .before .before .before .before .before .before .loop-test .taken) (p .inv .1 (c .before .before .before .before .before .before .before .before .before .before .before .before .before .loop-test .taken)) (c .advance .result) (c .advance .ensures),
       b .kept .1 .0 ∙ p .inv .2,
-      turn-passed (length (a .list .now)) (bodyPart (lent (length (a .list .now))) (a .text .now) (a .setup .macros) (a .first) (a .body .now)) (ordinaryFrame (a .setup)) (a .line) (a .progress .state)
+      turn-passed (length (a .list .now)) (openedPart (lent (length (a .list .now))) (a .text .now) (a .setup .macros) (a .opening) (a .body .now)) (ordinaryFrame (a .setup)) (a .line) (a .progress .state)
           (copyPlace (a .setup .origin) (a .layout) (a .copies)) (c .before .before .before .before .before .before .before .before .before .before .before .before .before .before .before .before .copy-count .result) (p .m) (p .now) (p .list) (a .list .now) (a .progress .hits) _ (c .before .before .before .before .before .before .before .before .before .before .before .before .before .loop-test .taken) (p .inv .3)
           (c .before .before .before .before .before .before .before .before .before .point .result) (c .before .before .before .before .before .before .before .with-state .result) (b .result .progress) (b .result .status) (b .last .1 .0) (lies (c .before .before .before .before .before .before .before .before .before)) (begins (c .before .before .before .before .before .before .before)) (is-close (c .before .before .before .before .before .before .before .before .before .before)) (ran (c .before .before .before .before .before)) (c .before .before .enum-told2 .given .1),
     )
@@ -182,7 +182,7 @@ returns-3 : tie.Need-returns-3 Inv-loop μ-loop
 returns-3 c =
     let a = c .before .before .before .before .before .before .before .before .before .before .before .args in
     let p = c .before .before .loop in
-    let z = copies-end (lent (length (a .list .now))) (bodyPart (lent (length (a .list .now))) (a .text .now) (a .setup .macros) (a .first) (a .body .now)) (ordinaryFrame (a .setup)) (a .line) (a .progress .state)
+    let z = copies-end (lent (length (a .list .now))) (openedPart (lent (length (a .list .now))) (a .text .now) (a .setup .macros) (a .opening) (a .body .now)) (ordinaryFrame (a .setup)) (a .line) (a .progress .state)
     (copyPlace (a .setup .origin) (a .layout) (a .copies)) (c .before .before .before .before .copy-count .result) (p .m) (p .now) (c .before .loop-test .left) in
     rw (c .passed .ensures) (leads-end hits (a .list .now) (a .progress .hits) _ (p .now) (p .list) (leads-as hits (a .list .now) (a .progress .hits) _ (p .list) (p .now .hits) z (p .inv .3)))
 

@@ -21,8 +21,10 @@ use Rattle.aries.specs.Setup.{withProgress}
 use Rattle.aries.specs.Program.{inPlace, begunOutside, carryOut}
 use Rattle.blocks.proofs.Decoded.{decoded-refused, decoded-done}
 use Rattle.program.proofs.Advances.{advanced-refused}
-use Rattle.program.proofs.OutsideBlocks.{first-byte, block-spent, block-refused, block-misplaced, block-carried, still-few, begun-hits}
-use Rattle.program.proofs.TextRuns.{hits}
+use Rattle.decode.specs.Ordinary.{isOrdinary}
+use Rattle.program.proofs.Rows.{apart-in-place, apart-by-line}
+use Rattle.bodies.proofs.OutsideBlocks.{first-byte, block-spent, block-refused, block-misplaced, block-carried, still-few, begun-hits}
+use Rattle.bodies.proofs.TextRuns.{hits}
 use Rattle.aries.specs.Runs.{Ran}
 use borrow.Author.Needs.{needs}
 use Rattle.program.proofs.lines.run_block.Statement.{statement}
@@ -46,7 +48,7 @@ test-is :
 test-is c =
     let a = c .before .before .before .before in
     c .may-come .ensures
-    ∙ ap (λ (b : ℕ). either (eqb b letterV) (ltb (a .args .program .progress .blocks) 100000)) (sym (first-byte (a .args .text .now) (a .args .at) (a .args .end) (a .pre .1 .1 .1 .0)))
+    ∙ ap (λ (b : ℕ). either (eqb b letterV) (ltb (a .args .program .progress .blocks) 100000)) (sym (first-byte (a .args .text .now) (a .args .at) (a .args .end) (a .pre .0 .1 .1 .1 .0)))
 
 few :
     (c : tie.Else1)
@@ -118,12 +120,22 @@ with-progress-requires : tie.Need-with-progress-requires
 with-progress-requires c κs = search needs
 
 add-carry-out : tie.Need-add-carry-out
-add-carry-out c = omega (arith, c .before .before .before .before .before .before .before .before .before .before .before .before .before .before .before .pre .1 .0, c .before .before .before .before .before .before .before .before .before .before .before .before .before .before .before .pre .1 .1 .1 .1)
+add-carry-out c = omega (arith, c .before .before .before .before .before .before .before .before .before .before .before .before .before .before .before .pre .0 .1 .0, c .before .before .before .before .before .before .before .before .before .before .before .before .before .before .before .pre .0 .1 .1 .1 .1)
+
+-- a block that is in its place is not ordinary
+block-apart : (c : tie.Else2) → isOrdinary (c .before .before .before .decoded2 .given .0 .0 .block) ≡ false
+block-apart c =
+    let a = c .before .before .before .before .before .before .before .before .before .before .before .before .args in
+    let l = take (a .end - a .at) (drop (a .at) (a .text .now)) in
+    let i = c .before .before .before .decoded2 .given .0 .0 in
+    let d : decode l (a .line) ≡ done i = decoded-done (decode l (a .line)) i (sym (c .before .before .before .before .before .decode .ensures) ∙ c .before .before .before .decoded2 .given .1) in
+    let o = sym (c .before .in-place .ensures) ∙ not-false (c .before .in-place .result) (c .if2 .left) in
+    apart-in-place (a .program .stage) (i .block) o (λ s. apart-by-line l (a .line) (a .program .progress .blocks) i (few (c .before .before .before .before .before .before .before)) d (c .before .before .before .before .before .before .before .before .before .before .before .before .pre .1 s))
 
 carry-out-requires : tie.Need-carry-out-requires
 carry-out-requires c κs =
     let a = c .before .before .before .before .before .before .before .before .before .before .before .before .before .before .before in
-    rw (c .before .with-progress .ensures) (a .pre .0, (a .pre .1 .0, a .pre .1 .1 .0))
+    rw (c .before .with-progress .ensures) (a .pre .0 .0, (a .pre .0 .1 .0, (a .pre .0 .1 .1 .0, block-apart (c .before .before .before))))
 
 returns-3 : tie.Need-returns-3
 returns-3 c =
@@ -148,7 +160,7 @@ returns-4 c =
     let i = c .before .before .before .before .before .before .before .before .decoded2 .given .0 .0 in
     let d : decode l (a .line) ≡ done i = decoded-done (decode l (a .line)) i (sym (c .before .before .before .before .before .before .before .before .before .before .decode .ensures) ∙ c .before .before .before .before .before .before .before .before .decoded2 .given .1) in
     let o : inPlace (a .program .stage) (i .block) ≡ true = sym (c .before .before .before .before .before .before .in-place .ensures) ∙ not-false (c .before .before .before .before .before .before .in-place .result) (c .before .before .before .before .before .if2 .left) in
-    let g : c .before .before .before .before .begin .result ≡ begunOutside l (a .program .progress) (i .measure) = c .before .before .before .before .begin .ensures ∙ ap (λ (b : ℕ). pick (eqb b letterV) (withState (a .program .progress) (measuring (a .program .progress .state) (i .measure))) (begun (a .program .progress) (i .measure))) (sym (first-byte (a .text .now) (a .at) (a .end) (c .before .before .before .before .before .before .before .before .before .before .before .before .before .before .before .before .before .pre .1 .1 .1 .0))) in
+    let g : c .before .before .before .before .begin .result ≡ begunOutside l (a .program .progress) (i .measure) = c .before .before .before .before .begin .ensures ∙ ap (λ (b : ℕ). pick (eqb b letterV) (withState (a .program .progress) (measuring (a .program .progress .state) (i .measure))) (begun (a .program .progress) (i .measure))) (sym (first-byte (a .text .now) (a .at) (a .end) (c .before .before .before .before .before .before .before .before .before .before .before .before .before .before .before .before .before .pre .0 .1 .1 .1 .0))) in
     let p = c .before .before .before .with-progress .ensures ∙ ap (withProgress (a .program)) g in
     rw (block-carried j (a .text .now) (a .end + 1) (a .line) l ls (a .program) (few (c .before .before .before .before .before .before .before .before .before .before .before .before)) i d o)
     (subst (λ (k : ℕ). Ran hits (c .before .carry-out .result .status) (c .before .carry-out .result .program) (a .list .now) (c .before .carry-out .last .0) k (carryOut (lent j) (a .text .now) (a .end + 1) (a .line) ls (i .block) (withProgress (a .program) (begunOutside l (a .program .progress) (i .measure)))))

@@ -11,7 +11,7 @@ use Rattle.aries.specs.Text.{lines}
 use Rattle.aries.specs.Judging.{lent}
 use Rattle.aries.specs.Setup.{atStage}
 use Rattle.program.proofs.Advances.{advanced-still}
-use Rattle.program.proofs.OutsideBlocks.{first-byte, line-closes, line-passes, line-block}
+use Rattle.bodies.proofs.OutsideBlocks.{first-byte, line-closes, line-passes, line-block}
 use borrow.Author.Needs.{needs}
 use Rattle.program.proofs.lines.run_line.Statement.{statement}
 use Rattle.program.proofs.lines.run_line.Tie as tie
@@ -28,8 +28,8 @@ same-length c = search needs
 -- the line is not blank
 some-bytes : (c : tie.Start) → 0 < length (take (c .args .end - c .args .at) (drop (c .args .at) (c .args .text .now)))
 some-bytes c =
-    let h : c .args .at < c .args .end = c .pre .1 .1 .1 .0 in
-    let i = c .pre .1 .1 .1 .1 in
+    let h : c .args .at < c .args .end = c .pre .0 .1 .1 .1 .0 in
+    let i = c .pre .0 .1 .1 .1 .1 in
     simp (length-take, length-drop) (omega arith)
 
 returns : tie.Need-returns
@@ -55,7 +55,7 @@ returns-2 c =
     let j = length (a .list .now) in
     let l = take (a .end - a .at) (drop (a .at) (a .text .now)) in
     let ls = lines (drop (a .end + 1) (a .text .now)) in
-    let v : getD l 0 0 ≡ letterV = first-byte (a .text .now) (a .at) (a .end) (c .before .before .before .before .before .before .before .pre .1 .1 .1 .0) ∙ c .before .before .if1 .taken in
+    let v : getD l 0 0 ≡ letterV = first-byte (a .text .now) (a .at) (a .end) (c .before .before .before .before .before .before .before .pre .0 .1 .1 .1 .0) ∙ c .before .before .if1 .taken in
     rw (line-closes (lent j) (a .text .now) (a .end + 1) (a .line) ls (a .program) l (c .before .before .before .before .enum-told .given .1) v)
     (advanced-still (c .passed .result) (atStage Running (a .program)) (a .list .now) _ (c .passed .ensures ∙ ap (λ (p : Program). record { status = Passed; program = p }) (c .before .at-stage .ensures)) refl)
 
@@ -68,7 +68,7 @@ returns-3 c =
     let j = length (a .list .now) in
     let l = take (a .end - a .at) (drop (a .at) (a .text .now)) in
     let ls = lines (drop (a .end + 1) (a .text .now)) in
-    let v : getD l 0 0 ≡ letterV → ⊥ = λ e. c .before .if1 .left (sym (first-byte (a .text .now) (a .at) (a .end) (c .before .before .before .before .before .before .pre .1 .1 .1 .0)) ∙ e) in
+    let v : getD l 0 0 ≡ letterV → ⊥ = λ e. c .before .if1 .left (sym (first-byte (a .text .now) (a .at) (a .end) (c .before .before .before .before .before .before .pre .0 .1 .1 .1 .0)) ∙ e) in
     rw (line-passes (lent j) (a .text .now) (a .end + 1) (a .line) ls (a .program) l (c .before .before .before .enum-told .given .1) v)
     (advanced-still (c .passed2 .result) (a .program) (a .list .now) _ (c .passed2 .ensures) refl)
 

@@ -13,7 +13,7 @@ use Rattle.aries.specs.Setup.{atStage, setOrdinary, ordinaryFrame}
 use Rattle.aries.specs.Program.{carryOut}
 use Rattle.aries.specs.Runs.{Carried, Advanced}
 use Rattle.program.proofs.Advances.{advanced-refused, advanced-still, advanced-by}
-use Rattle.program.proofs.OutsideBlocks.{carry-out-ordinary}
+use Rattle.bodies.proofs.OutsideBlocks.{carry-out-ordinary}
 use borrow.Author.Needs.{needs}
 use Rattle.program.proofs.outside.carry_out.Statement.{statement}
 use Rattle.program.proofs.outside.carry_out.Tie as tie
@@ -52,7 +52,7 @@ enum-known-block-4 : tie.Need-enum-known-block-4
 enum-known-block-4 c = search needs
 
 open-body-requires : tie.Need-open-body-requires
-open-body-requires c κs = c .before .before .before .before .before .before .before .before .pre
+open-body-requires c κs = let h = c .before .before .before .before .before .before .before .before .pre in (h .0, (h .1 .0, h .1 .1 .0))
 
 enum-told-2 : tie.Need-enum-told-2
 enum-told-2 c = search needs
@@ -73,7 +73,7 @@ frame-requires : tie.Need-frame-requires
 frame-requires c κs = search needs
 
 run-block-requires : tie.Need-run-block-requires
-run-block-requires c κs = c .before .before .before .before .before .before .before .before .pre .0
+run-block-requires c κs = let h = c .before .before .before .before .before .before .before .before .pre in (h .0, h .1 .1 .1)
 
 advanced-requires-2 : tie.Need-advanced-requires-2
 advanced-requires-2 c κs = search needs

@@ -1,7 +1,7 @@
 -- By the tag of the block.
 use mathlib.Core.Path.{sym}
 use borrow.Author.Needs.{needs}
-use Rattle.program.proofs.OutsideBlocks.{not-machine}
+use Rattle.bodies.proofs.OutsideBlocks.{not-machine}
 use Rattle.program.proofs.outside.is_machine.Statement.{statement}
 use Rattle.program.proofs.outside.is_machine.Tie as tie
 

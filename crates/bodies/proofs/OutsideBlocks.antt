@@ -153,3 +153,9 @@ module _ (j : Judging) (text : List ℕ) (next line : ℕ) (ls : List (List ℕ)
       go Running e k = cc
       go Storing e k = absurd (miss notStoring 2 tt k)
       go Ended e k = cc
+
+  -- so it is while the program runs
+  pub line-running : (l : List ℕ) → p .stage ≡ Running → 0 < length l → runLineOutside j text next line l ls p ≡ runBlockOutside j text next line l ls p
+  unfolding runBlockOutside
+  line-running [] e n = absurd (omega arith)
+  line-running (b ∷ bs) e n = cc

@@ -87,7 +87,7 @@ module _ (j : Judging) (t : List ℕ) where
           nothing a b c d = refl
 
   -- a line, and then the lines from the next block on
-  line-then : (at end line : ℕ) (p : Program) → at < length t → end ≡ at + lineLength (drop at t)
+  pub line-then : (at end line : ℕ) (p : Program) → at < length t → end ≡ at + lineLength (drop at t)
       → runFrom j t at line (lines (drop at t)) p
       ≡ andThen (runLineOutside j t (end + 1) line (take (end - at) (drop at t)) (lines (drop (end + 1) t)) p)
       (runFrom j t (end + blanks (drop end t)) (line + blanks (drop end t)) (lines (drop (end + blanks (drop end t)) t)))

@@ -1,0 +1,66 @@
+-- Laws of rows of ordinary blocks outside bodies, and of blocks that are not ordinary.
+use mathlib.Core.Path.{_≡_, refl, sym, subst}
+use mathlib.Core.Bool.{Bool, true, false}
+use mathlib.Core.List.{List, [], _∷_}
+use Prim.Native.Nat.{ℕ}
+use native.Mathlib.Omega.{arith}
+use lib.Dec.{ltb}
+use denote.Enum.Declared.{tagOf}
+use types.Run.{OneOf, miss}
+use Rattle.aries.proofs.setup.Stage as stage
+use Rattle.aries.specs.declared.block.Block.{Block}
+use Rattle.aries.specs.declared.block.Block.the-variants.{Machine, End, Read, Punch, Move, Origin, Offset, Place, Run, Recall, Nibble, Idle, Open, Close, Call, Copy}
+use Rattle.aries.specs.declared.setup.Stage.{Stage}
+use Rattle.aries.specs.declared.setup.Stage.the-variants.{Fresh, Running, Storing, Ended}
+use Rattle.aries.specs.declared.block.Instruction.{Instruction}
+use Rattle.aries.specs.Outcome.{done}
+use Rattle.aries.specs.Test.{either}
+use Rattle.aries.specs.Letters.{letterV}
+use Rattle.aries.specs.Blocks.{decode}
+use Rattle.aries.specs.Bodies.{startsWith}
+use Rattle.aries.specs.Program.{isMachine, inPlace}
+use Rattle.decode.proofs.CloseLines.{close-line}
+use Rattle.bodies.specs.Ordinary.{ApartIn}
+use Rattle.bodies.proofs.OutsideBlocks.{still-few}
+use Rattle.decode.specs.Ordinary.{isOrdinary}
+
+-- every stage but that of a program that runs
+abbrev pub notRunning : List ℕ
+notRunning = 0 ∷ 2 ∷ 3 ∷ []
+
+pub not-running : (s : Stage) → OneOf notRunning (tagOf stage.the-type s) → s ≡ Running → ⊥
+not-running s h e = miss notRunning 1 tt (subst (λ (x : Stage). OneOf notRunning (tagOf stage.the-type x)) e h)
+
+-- G92 is not ordinary
+machine-apart : (b : Block) → isMachine b ≡ true → isOrdinary b ≡ false
+machine-apart (Machine q) h = refl
+machine-apart End h = refl
+machine-apart Read h = sym h
+machine-apart (Punch a t) h = sym h
+machine-apart (Move a t) h = sym h
+machine-apart (Origin a) h = sym h
+machine-apart (Offset a) h = refl
+machine-apart (Place l) h = refl
+machine-apart (Run q t a) h = sym h
+machine-apart (Recall k) h = sym h
+machine-apart (Nibble b) h = sym h
+machine-apart Idle h = sym h
+machine-apart (Open k) h = refl
+machine-apart (Close k) h = refl
+machine-apart (Call k) h = refl
+machine-apart (Copy c) h = refl
+
+-- a block in its place is not ordinary, if none is while the program runs
+pub apart-in-place : (s : Stage) (b : Block) → inPlace s b ≡ true → (s ≡ Running → isOrdinary b ≡ false) → isOrdinary b ≡ false
+apart-in-place Fresh b h r = machine-apart b h
+apart-in-place Running b h r = r refl
+apart-in-place Storing b h r = let z : _≡_ {A = ℕ} 0 1 = cc in absurd (omega arith)
+apart-in-place Ended b h r = let z : _≡_ {A = ℕ} 0 1 = cc in absurd (omega arith)
+
+-- no block that may come is ordinary, if none that is counted is: a V line never is
+pub apart-by-line : (l : List ℕ) (line blocks : ℕ) (i : Instruction) → either (startsWith letterV l) (ltb blocks 100000) ≡ true → decode l line ≡ done i → ApartIn l line blocks → isOrdinary (i .block) ≡ false
+apart-by-line l line blocks i few d h = go (startsWith letterV l) refl
+  where
+    go : (v : Bool) → startsWith letterV l ≡ v → isOrdinary (i .block) ≡ false
+    go true e = close-line l line i e d
+    go false e = h i (still-few (startsWith letterV l) blocks few e) d
