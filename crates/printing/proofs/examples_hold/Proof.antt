@@ -1,0 +1,15 @@
+-- By computation. Assumes nothing.
+use mathlib.Core.Path.{refl}
+use Rattle.aries.specs.Text.{bytes}
+use Rattle.printing.specs.Decimals.{digits, decimal, signedDecimal}
+use Rattle.printing.specs.Listing.{hitLine, hitLines, headLine, refusalLine, listing}
+use Rattle.printing.specs.Examples.{Examples}
+use Rattle.printing.proofs.examples_hold.Statement.{statement}
+use Rattle.printing.proofs.examples_hold.Tie as tie
+
+returns : tie.Need-returns
+unfolding bytes digits decimal signedDecimal hitLine hitLines headLine refusalLine listing
+returns c = record { accepted = refl; refused = refl; nibbled = refl; empty = refl }
+
+pub examples-hold-spec : {M : Type 1} → statement M
+examples-hold-spec = tie.close (tie.spec returns)
