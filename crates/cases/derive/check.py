@@ -1,0 +1,124 @@
+"""Checks the case table against the expander; with a folder, writes data/, args, stdout and cases.md there.
+
+    check.py         compare every expectation that was worked out by hand with the expander
+    check.py FOLDER  the same, then write the golden files
+"""
+import os
+import sys
+from table import CASES, R, H
+import cases_text, cases_press, cases_limits, cases_manual
+from expander import expand, printed
+
+bad = 0
+answers = []
+for name, length, text, hand, reason in CASES:
+    number, rest = expand(text, length)
+    answers.append((number, rest))
+    if isinstance(hand, R):
+        ok = (number, rest) == (hand.number, hand.line)
+    else:
+        ok = number == 0 and len(rest) == hand.count and all(rest[k - 1 if k > 0 else k] == h for k, h in hand.some.items())
+    if not ok:
+        bad += 1
+        want = 'R%d/%d' % (hand.number, hand.line) if isinstance(hand, R) else 'H%d' % hand.count
+        print('DIFFERS', name, 'hand', want, 'expander', printed((number, rest))[:70].replace('\n', ' '))
+        if isinstance(hand, H) and number == 0:
+            for k, h in hand.some.items():
+                if abs(k) <= len(rest) and rest[k - 1 if k > 0 else k] != h:
+                    print('    hit', k, 'hand', h, 'expander', rest[k - 1 if k > 0 else k])
+print(len(CASES), 'cases,', bad, 'differ')
+
+GROUPS = ['plates', 'tempting', 'text', 'words', 'letters', 'codes', 'two', 'ranges', 'kinds', 'moves', 'origin', 'patterns', 'memory', 'sine', 'macros',
+          'layouts', 'lists', 'characters', 'calls', 'blocks', 'reach', 'refusal', 'order', 'decision', 'manual']
+HEADS = {
+    'plates': 'The plates of document 01', 'tempting': 'Four readings that tempt', 'text': 'Bytes, lines, spaces', 'words': 'The form of a word (4)',
+    'letters': 'The letters of each block (5)', 'codes': 'Codes (5)', 'two': 'Two G words (5)', 'ranges': 'Range ends and one beyond (6, 16)',
+    'kinds': 'Signs and points on whole numbers (6)', 'moves': 'Moving and punching', 'origin': 'The waiting origin', 'patterns': 'Patterns',
+    'memory': 'Pattern memory', 'sine': 'Sines', 'macros': 'Macros', 'layouts': 'Layouts', 'lists': 'Lists (17)', 'characters': 'Characters of bodies (12)',
+    'calls': 'Open calls (11)', 'blocks': 'Blocks carried out (3)', 'reach': 'Reach (15)', 'refusal': 'Each refusal at the top, in a body, in a first run, in a copy',
+    'order': 'Two faults in one block', 'decision': 'Decisions', 'manual': 'Examples of the manuals',
+}
+
+
+golden = list(zip(CASES, answers))
+golden.sort(key=lambda ca: (GROUPS.index(ca[0][0].split('-')[0]), ca[0][0] if ca[0][0].split('-')[0] in ('order', 'refusal') else ''))
+
+HOME = os.path.dirname(os.path.abspath(__file__))
+PAIRS = open(os.path.join(HOME, 'pairs.md')).read()
+DECISIONS = open(os.path.join(HOME, 'decisions.md')).read()
+
+
+def told(answer):
+    number, rest = answer
+    if number:
+        return '%d in line %d' % (number, rest)
+    if not rest:
+        return 'no hit'
+    if len(rest) <= 3:
+        return ', '.join('(%d %d %d %s)' % h for h in rest)
+    return '%d hits, (%d %d %d %s) to (%d %d %d %s)' % ((len(rest),) + rest[0] + rest[-1])
+
+
+def shown(text):
+    """A short text on one line: a slash, which no text has, for a line feed between two lines."""
+    if len(text) > 120 or not text or any(b > 126 or (b < 32 and b != 10) or b in b'/|`' for b in text):
+        return 'in the file' if text else 'no bytes'
+    s = text.decode()
+    s = s[:-1] if s.endswith('\n') else s
+    return '`%s`' % s.replace('\n', '/')
+
+
+def write(folder):
+    data = os.path.join(folder, 'data')
+    os.makedirs(data, exist_ok=True)
+    for f in os.listdir(data):
+        os.remove(os.path.join(data, f))
+    words, out = [], []
+    for (name, length, text, hand, reason), answer in golden:
+        file = name + '.nc'
+        with open(os.path.join(data, file), 'wb') as f:
+            f.write(text)
+        words += [str(length), file]
+        out.append('%s %d\n%s' % (file, length, printed(answer)))
+    with open(os.path.join(folder, 'args'), 'w') as f:
+        f.write('\n'.join(words) + '\n')
+    with open(os.path.join(folder, 'stdout'), 'w') as f:
+        f.write(''.join(out))
+    with open(os.path.join(folder, 'cases.md'), 'w') as f:
+        f.write(intro())
+        group = None
+        for (name, length, text, hand, reason), answer in golden:
+            g = name.split('-')[0]
+            if g != group:
+                group = g
+                f.write('\n## %s\n\n' % HEADS[g])
+                if g == 'order':
+                    f.write(PAIRS)
+                if g == 'decision':
+                    f.write(DECISIONS)
+                f.write('| case | program | answer | why |\n|---|---|---|---|\n')
+            f.write('| %s | %s | %s%s | %s |\n' % (name, shown(text), '' if length == 16384 else 'list of %d: ' % length, told(answer), reason))
+    print('written: %d files, %d bytes of data, %d of stdout' % (len(golden), sum(len(c[2]) for c, a in golden), sum(len(o) for o in out)))
+
+
+def intro():
+    return '''# The golden cases
+
+A case is a program text in `data/` with a list length. `args` has, for each case, the length and the file's name;
+`stdout` has the name, the length and the answer as hitlist prints it. A name says what its case tests, so that the first
+line that differs explains itself. The answers were worked out from the rules and not taken from the program.
+
+The table of cases, each with the answer worked out by hand, is in `derive/`, beside an expander of its own that is
+written from the rules alone. `derive/check.py` compares the two, and `derive/check.py .` writes all files anew.
+
+In the tables a slash stands for a line feed; a long text, or one with other bytes, is in its file. Lines count from 1,
+blank ones too. The list has 16,384 numbers, so places for 4,096 hits, unless another length is given. An answer is a
+refusal's number and line, or the hits: X, Y, tool, mode. In the last column a number before a colon is that refusal's;
+000, 001 and 002 are the manuals.
+'''
+
+
+if bad:
+    sys.exit(1)
+if len(sys.argv) > 1:
+    write(sys.argv[1])
