@@ -1,0 +1,11 @@
+//! Compares the proved expander with the plain one: texts to try, and the comparison of two answers.
+
+pub mod clock;
+pub mod damage;
+pub mod limits;
+pub mod pair;
+pub mod programs;
+pub mod random;
+pub mod samples;
+pub mod scribe;
+pub mod workloads;

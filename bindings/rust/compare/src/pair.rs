@@ -1,0 +1,102 @@
+//! The two expanders side by side.
+
+use std::fmt::Write;
+
+/// The three numbers of an answer.
+#[derive(Clone, Copy, Debug, PartialEq, Eq)]
+pub struct Answer {
+    /// The number of the refusal, 0 if the text is accepted.
+    pub number: u8,
+    pub count: usize,
+    pub line: u64,
+}
+
+/// What the proved library answers.
+pub fn library(text: &[u8], list: &mut [i32]) -> Answer {
+    match tolkjirp::expand_into(text, list) {
+        Ok(count) => Answer {
+            number: 0,
+            count,
+            line: 0,
+        },
+        Err(refused) => Answer {
+            number: refused.refusal.number(),
+            count: 0,
+            line: refused.line(),
+        },
+    }
+}
+
+/// What the plain expander answers.
+pub fn plain(text: &[u8], list: &mut [i32]) -> Answer {
+    match plain::expand(text, list) {
+        plain::Answer::Hits(count) => Answer {
+            number: 0,
+            count,
+            line: 0,
+        },
+        plain::Answer::Refused { number, line } => Answer { number, count: 0, line },
+    }
+}
+
+/// A text and list length for which the two differ.
+pub struct Difference {
+    pub text: Vec<u8>,
+    pub list_length: usize,
+    pub library: Answer,
+    pub plain: Answer,
+    /// The first place at which the lists differ.
+    pub place: Option<usize>,
+}
+
+impl Difference {
+    /// All that is needed to see the difference again.
+    pub fn describe(&self) -> String {
+        let mut report = String::new();
+        let text = self.text.escape_ascii();
+        writeln!(report, "text    b\"{text}\"").expect("a string takes all");
+        writeln!(report, "list    {} numbers", self.list_length).expect("a string takes all");
+        writeln!(report, "library {:?}", self.library).expect("a string takes all");
+        writeln!(report, "plain   {:?}", self.plain).expect("a string takes all");
+        if let Some(place) = self.place {
+            writeln!(report, "the lists differ at number {place}").expect("a string takes all");
+        }
+        report
+    }
+}
+
+/// Two lists for comparing.
+pub struct Pair {
+    first: Vec<i32>,
+    second: Vec<i32>,
+}
+
+impl Pair {
+    /// Lists with room for so many numbers.
+    pub fn new(longest: usize) -> Pair {
+        Pair {
+            first: vec![0; longest],
+            second: vec![0; longest],
+        }
+    }
+
+    /// Expands a text into two lists of a length, both full of other numbers before, and gives the common answer.
+    pub fn compare(&mut self, text: &[u8], list_length: usize) -> Result<Answer, Difference> {
+        let first = &mut self.first[..list_length];
+        let second = &mut self.second[..list_length];
+        first.fill(-77_777_777);
+        second.fill(77_777_777);
+        let library = library(text, first);
+        let plain = plain(text, second);
+        if library == plain && first == second {
+            return Ok(library);
+        }
+        Err(Difference {
+            text: text.to_vec(),
+            list_length,
+            library,
+            plain,
+            place: first.iter().zip(second.iter()).position(|(a, b)| a != b),
+        })
+    }
+}

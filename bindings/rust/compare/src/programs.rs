@@ -1,0 +1,339 @@
+//! Programs that are mostly valid, with every kind of block.
+
+use crate::scribe::{Scribe, Temper};
+
+/// Writes programs.
+pub struct Programmer {
+    pub scribe: Scribe,
+    /// Whether G91 holds, as far as it is known.
+    is_relative: Option<bool>,
+    /// Macros with a body, as far as they are known.
+    stored: Vec<i32>,
+    /// Memories with a pattern, as far as they are known.
+    memories: Vec<i32>,
+    is_within_body: bool,
+}
+
+impl Programmer {
+    pub fn new(seed: u64) -> Programmer {
+        Programmer {
+            scribe: Scribe::new(seed),
+            is_relative: Some(false),
+            stored: Vec::new(),
+            memories: Vec::new(),
+            is_within_body: false,
+        }
+    }
+
+    /// A whole program.
+    pub fn write(mut self) -> Vec<u8> {
+        self.machine();
+        if !self.scribe.random.one_in(20) {
+            self.first_position();
+        }
+        let steps = 1 + self.scribe.random.below(8);
+        for _ in 0..steps {
+            self.step();
+        }
+        if !self.scribe.random.one_in(50) {
+            self.scribe.block(&mut ["G50".to_string()]);
+        }
+        if self.scribe.random.one_in(4) {
+            self.scribe.text.pop();
+        }
+        self.scribe.text
+    }
+
+    /// G92, usually with one of the two machines.
+    pub fn machine(&mut self) {
+        let scribe = &mut self.scribe;
+        let (mut x, mut y) = scribe.random.pick(&[(60_000, 60_000), (100_000, 60_000)]);
+        if scribe.temper != Temper::Calm && scribe.random.one_in(40) {
+            (x, y) = scribe
+                .random
+                .pick(&[(60_000, 60_001), (100_000, 100_000), (600, 600), (-60_000, 60_000)]);
+        }
+        let mut words = ["G92".to_string(), scribe.measure('X', x), scribe.measure('Y', y)];
+        scribe.block(&mut words);
+    }
+
+    /// One block or a few that belong together.
+    pub fn step(&mut self) {
+        let steps = if self.is_within_body { 12 } else { 18 };
+        match self.scribe.random.below(steps) {
+            0..=2 => self.position(),
+            3 => self.movement(),
+            4 => {
+                self.origin();
+                self.pattern();
+            }
+            5..=6 => self.pattern(),
+            7 => self.recall(),
+            8 => self.mode(),
+            9 => self.reading(),
+            10 => self.call(),
+            11 => self.origin(),
+            12..=14 => self.macro_body(),
+            15 => self.offset(),
+            _ => self.layout(),
+        }
+    }
+
+    /// G90 or G91, if it is to be written, and whether positions are relative then.
+    fn choose_reading(&mut self, words: &mut Vec<String>) -> bool {
+        let relative = match self.is_relative {
+            Some(relative) if !self.scribe.random.one_in(4) => return relative,
+            _ => self.scribe.random.one_in(3),
+        };
+        words.push(self.scribe.code('G', 90 + i32::from(relative)));
+        self.is_relative = Some(relative);
+        relative
+    }
+
+    /// X, Y or both.
+    fn axes(&mut self, words: &mut Vec<String>, is_relative: bool) {
+        let (least, most) = match (is_relative, self.is_within_body) {
+            (true, _) => (-1_000, 1_000),
+            (false, true) => (3_000, 8_000),
+            (false, false) => (5_000, 35_000),
+        };
+        let both = self.scribe.random.below(4);
+        if both != 0 {
+            let x = self.scribe.length(least, most);
+            words.push(self.scribe.measure('X', x));
+        }
+        if both != 1 {
+            let y = self.scribe.length(least, most);
+            words.push(self.scribe.measure('Y', y));
+        }
+    }
+
+    fn tool(&mut self, words: &mut Vec<String>) {
+        let tool = self.scribe.count(1, 99);
+        words.push(self.scribe.whole('T', tool));
+    }
+
+    /// A position with both axes and a tool.
+    fn first_position(&mut self) {
+        let (x, y) = (self.scribe.length(5_000, 35_000), self.scribe.length(5_000, 35_000));
+        let mut words = vec![self.scribe.measure('X', x), self.scribe.measure('Y', y)];
+        self.tool(&mut words);
+        self.scribe.block(&mut words);
+    }
+
+    fn position(&mut self) {
+        let mut words = Vec::new();
+        let is_relative = self.choose_reading(&mut words);
+        self.axes(&mut words, is_relative);
+        if self.scribe.random.one_in(5) {
+            self.tool(&mut words);
+        }
+        self.scribe.block(&mut words);
+    }
+
+    fn movement(&mut self) {
+        let mut words = vec![self.scribe.code('G', 70)];
+        let is_relative = self.choose_reading(&mut words);
+        self.axes(&mut words, is_relative);
+        if self.scribe.random.one_in(4) {
+            self.tool(&mut words);
+        }
+        self.scribe.block(&mut words);
+    }
+
+    fn origin(&mut self) {
+        let mut words = vec![self.scribe.code('G', 72)];
+        let is_relative = self.choose_reading(&mut words);
+        self.axes(&mut words, is_relative);
+        self.scribe.block(&mut words);
+    }
+
+    fn reading(&mut self) {
+        let is_relative = self.scribe.random.one_in(2);
+        self.is_relative = Some(is_relative);
+        let code = self.scribe.code('G', 90 + i32::from(is_relative));
+        self.scribe.block(&mut [code]);
+    }
+
+    fn mode(&mut self) {
+        let number = self.scribe.random.pick(&[0, 1, 8, 9, 12, 12, 12, 13, 13]);
+        let code = self.scribe.code('M', number);
+        self.scribe.block(&mut [code]);
+    }
+
+    fn pattern(&mut self) {
+        let mut words = Vec::new();
+        if self.scribe.random.one_in(4) {
+            let memory = self.scribe.count(1, 5);
+            self.memories.push(memory);
+            words.push(self.scribe.whole('A', memory));
+        }
+        let code = self.scribe.random.pick(&[26, 28, 29, 36, 37]);
+        words.push(self.scribe.code('G', code));
+        if self.scribe.random.one_in(8) {
+            self.choose_reading(&mut words);
+        }
+        match code {
+            26 | 28 | 29 => self.round_words(&mut words, code),
+            _ => self.grid_words(&mut words),
+        }
+        if self.scribe.random.one_in(5) {
+            self.tool(&mut words);
+        }
+        self.scribe.block(&mut words);
+    }
+
+    /// The numbers of a line, an arc or a circle.
+    fn round_words(&mut self, words: &mut Vec<String>, code: i32) {
+        let least = if code == 28 { -500 } else { 1 };
+        let length = self.scribe.length(least, 800);
+        words.push(self.scribe.measure('I', length));
+        let angle = self.scribe.angle();
+        words.push(self.scribe.measure('J', angle));
+        if code == 29 {
+            let step = self.scribe.angle();
+            words.push(self.scribe.measure('P', step));
+        }
+        let mut count = self.scribe.count(1, 999);
+        if code == 26 && self.scribe.random.one_in(2) {
+            count = -count;
+        }
+        words.push(self.scribe.whole('K', count));
+    }
+
+    /// The numbers of a grid.
+    fn grid_words(&mut self, words: &mut Vec<String>) {
+        for (pitch, count) in [('I', 'P'), ('J', 'K')] {
+            let length = self.scribe.length(-300, 900);
+            words.push(self.scribe.measure(pitch, length));
+            let spaces = self.scribe.count(0, 999);
+            words.push(self.scribe.whole(count, spaces));
+        }
+    }
+
+    /// B, usually of a memory that has a pattern.
+    fn recall(&mut self) {
+        let memory = match self.memories.last() {
+            Some(&memory) if !self.scribe.random.one_in(15) => memory,
+            _ if !self.scribe.random.one_in(10) => return self.pattern(),
+            _ => self.scribe.count(1, 5),
+        };
+        let word = self.scribe.whole('B', memory);
+        self.scribe.block(&mut [word]);
+    }
+
+    /// The number of a macro, usually of one that has a body.
+    fn stored_number(&mut self) -> Option<i32> {
+        if !self.stored.is_empty() && !self.scribe.random.one_in(15) {
+            return Some(self.scribe.random.pick(&self.stored));
+        }
+        self.scribe.random.one_in(10).then(|| self.macro_number())
+    }
+
+    fn macro_number(&mut self) -> i32 {
+        match self.scribe.random.below(4) {
+            0 => self.scribe.random.pick(&[1, 59, 60, 89]),
+            1 => self.scribe.random.within(1..=3),
+            2 => self.scribe.random.within(60..=62),
+            _ => self.scribe.count(1, 89),
+        }
+    }
+
+    fn call(&mut self) {
+        if let Some(number) = self.stored_number() {
+            let word = self.scribe.whole('W', number);
+            self.scribe.block(&mut [word]);
+            self.is_relative = None;
+        }
+    }
+
+    /// A U line, its body and its V line.
+    fn macro_body(&mut self) {
+        let number = self.macro_number();
+        let open = self.scribe.whole('U', number);
+        self.scribe.line(&open);
+        self.body();
+        let close = self.scribe.whole('V', number);
+        self.scribe.line(&close);
+        self.stored.push(number);
+        self.is_relative = None;
+        if self.scribe.random.one_in(2) {
+            self.call();
+        }
+    }
+
+    /// Blocks of a body, seldom with one that may not stand there.
+    fn body(&mut self) {
+        self.is_within_body = true;
+        self.is_relative = None;
+        let memories = self.memories.len();
+        for _ in 0..self.scribe.random.below(6) {
+            if self.scribe.temper == Temper::Wild && self.scribe.random.one_in(30) {
+                self.offset();
+            } else {
+                self.step();
+            }
+        }
+        self.is_within_body = false;
+        self.memories.truncate(memories);
+    }
+
+    fn offset(&mut self) {
+        let mut words = vec![self.scribe.code('G', 93)];
+        if self.scribe.random.one_in(4) {
+            words.push(self.scribe.code('G', 90));
+            self.is_relative = Some(false);
+        }
+        let axes = self.scribe.random.below(4);
+        for (letter, omitted) in [('X', 0), ('Y', 1)] {
+            if axes != omitted {
+                let length = self.scribe.length(-3_000, 5_000);
+                words.push(self.scribe.measure(letter, length));
+            }
+        }
+        self.scribe.block(&mut words);
+    }
+
+    /// G98, usually with a part and its runs.
+    fn layout(&mut self) {
+        let mut words = vec![self.scribe.code('G', 98)];
+        for letter in ['X', 'Y'] {
+            let length = self.scribe.length(1_000, 10_000);
+            words.push(self.scribe.measure(letter, length));
+        }
+        for (letter, most) in [('I', 6_000), ('J', 6_000), ('D', 500)] {
+            if !self.scribe.random.one_in(5) {
+                let length = self.scribe.length(0, most);
+                words.push(self.scribe.measure(letter, length));
+            }
+        }
+        for letter in ['P', 'K'] {
+            if !self.scribe.random.one_in(5) {
+                let count = self.scribe.count(0, 99);
+                words.push(self.scribe.whole(letter, count));
+            }
+        }
+        self.scribe.block(&mut words);
+        if !self.scribe.random.one_in(5) {
+            self.macro_body();
+        }
+        self.runs();
+    }
+
+    /// G75 and G76 blocks.
+    pub fn runs(&mut self) {
+        for _ in 0..1 + self.scribe.random.below(3) {
+            if let Some(number) = self.stored_number() {
+                let code = self.scribe.random.pick(&[75, 76]);
+                let corner = self.scribe.count(1, 4);
+                let mut words = [
+                    self.scribe.code('G', code),
+                    self.scribe.whole('W', number),
+                    self.scribe.whole('Q', corner),
+                ];
+                self.scribe.block(&mut words);
+                self.is_relative = None;
+            }
+        }
+    }
+}

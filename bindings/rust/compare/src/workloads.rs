@@ -1,0 +1,125 @@
+//! Texts to measure with.
+
+/// A text, what it is, and the numbers of its list.
+pub struct Workload {
+    pub name: &'static str,
+    pub text: Vec<u8>,
+    pub list_length: usize,
+}
+
+const G92: &str = "G92 X600. Y600.\n";
+
+/// The numbers of a list for 4,096 hits.
+const USUAL: usize = 16_384;
+
+/// All texts to measure with.
+pub fn workloads() -> Vec<Workload> {
+    [
+        ("shortest program", shortest(), 16),
+        ("shortest program", shortest(), USUAL),
+        ("small plate", small_plate(), 64),
+        ("small plate", small_plate(), USUAL),
+        ("60,000 bytes without macros", flat(), USUAL),
+        ("90,000 blocks through nested macros", nested(), USUAL),
+        ("grid of 4,096 hits", grid(), USUAL),
+        ("arcs and circles", arcs(), USUAL),
+        ("4,096 copies of a part", copies(), USUAL),
+        ("400 x 10,000 copies, empty part", empty_part(""), USUAL),
+        ("  part of 40,000 spaces", empty_part(&spaces(40_000)), USUAL),
+        ("  part of 3,000 line feeds", empty_part(&line_feeds(3_000)), USUAL),
+        ("5 x 10,000 copies, part of one block", one_block("", ""), USUAL),
+        ("  after 30,000 spaces", one_block(&spaces(30_000), ""), USUAL),
+        ("  with 30,000 spaces in it", one_block("", &spaces(30_000)), USUAL),
+        ("  after 3,000 line feeds", one_block(&line_feeds(3_000), ""), USUAL),
+        ("4 x 10,000 copies, two blocks far apart", two_blocks(), USUAL),
+    ]
+    .map(|(name, text, list_length)| Workload {
+        name,
+        text: text.into_bytes(),
+        list_length,
+    })
+    .into()
+}
+
+fn spaces(count: usize) -> String {
+    " ".repeat(count)
+}
+
+fn line_feeds(count: usize) -> String {
+    "\n".repeat(count)
+}
+
+fn shortest() -> String {
+    "G92X600.Y600.\nG50".to_string()
+}
+
+fn small_plate() -> String {
+    format!("{G92}G90 X100. Y100. T2\nG28 I10. J45. K2\nG72 X300. Y200.\nG26 I25. J45. K4\nG50\n")
+}
+
+/// Positions, two in three with both axes, up to 60,000 bytes.
+fn flat() -> String {
+    let mut text = format!("{G92}X10. Y10. T2\n");
+    for number in 0.. {
+        let (x, y) = (number * 37 % 600, number * 91 % 600);
+        let block = match number % 3 {
+            0 => format!("G90 X{x}. Y{y}. T{}\n", 1 + number % 99),
+            1 => format!("X{x}.5 Y{y}.25\n"),
+            _ => format!("N{} G70 X{x}.\n", number % 10_000),
+        };
+        if text.len() + block.len() + 4 > 60_000 {
+            break;
+        }
+        text.push_str(&block);
+    }
+    let missing = 60_000 - text.len() - 4;
+    format!("{text}{}G50\n", " ".repeat(missing))
+}
+
+/// Three levels of macros, with moves at the bottom.
+fn nested() -> String {
+    let moves = "G70 X100. Y200. T3\nG91 G70 X1.5\nG90\nG72 X50. Y60.\nM12\nM13\nG70 X20. Y-5.25\nG90\n";
+    let middle = "W60\n".repeat(50);
+    let upper = "W61\n".repeat(50);
+    format!(
+        "{G92}U60\n{moves}V60\nU61\n{middle}V61\nU62\n{upper}V62\n{}G50\n",
+        "W62\n".repeat(4)
+    )
+}
+
+fn grid() -> String {
+    format!("{G92}X1. Y1. T2\nG36 I9. P63 J9. K63\nG50\n")
+}
+
+fn arcs() -> String {
+    let patterns = [
+        "G29 I250. J10.5 P0.37 K400",
+        "G26 I200.55 J45. K-601",
+        "G28 I0.21 J33.33 K300",
+    ];
+    let blocks = patterns.map(|pattern| format!("G72 X300. Y300.\n{pattern}\n"));
+    format!("{G92}X300. Y300. T5\n{}G50\n", blocks.concat().repeat(3))
+}
+
+fn copies() -> String {
+    format!("{G92}G98 X5. Y5. I9. J9. P63 K63\nU1\nX1. Y1. T2\nV1\nG75 W1 Q4\nG50\n")
+}
+
+/// Runs of a part without blocks.
+fn empty_part(part: &str) -> String {
+    let runs = "G75W60Q4\n".repeat(400);
+    format!("{G92}U60\n{part}\nV60\nG98X1.Y1.I1.J1.P99K99\n{runs}G50\n")
+}
+
+/// Runs of a part of one block, 50,000 times in all.
+fn one_block(before: &str, within: &str) -> String {
+    let runs = "G76W60Q2\n".repeat(5);
+    format!("{G92}U60\n{before}G70X2.5{within}Y1.\nV60\nG98X1.Y1.I1.J1.P99K99\n{runs}G50\n")
+}
+
+/// Runs of a part of two blocks, 40,000 times in all.
+fn two_blocks() -> String {
+    let runs = "G76W60Q3\n".repeat(4);
+    let apart = line_feeds(3_000);
+    format!("{G92}U60\nG70X2.5Y1.\n{apart}M8\nV60\nG98X1.Y1.I1.J1.P99K99\n{runs}G50\n")
+}

@@ -1,0 +1,61 @@
+//! An expander of ARIES punch code in plain Rust.
+//!
+//! It is written from the rules alone and shares no code with the proved library, so that the two can be compared.
+//!
+//! ```
+//! let mut list = [-1; 16];
+//! let text = b"G92 X600. Y600.\nG90 X100. Y100. T2\nG28 I10. J45. K2\nG50\n";
+//! assert_eq!(plain::expand(text, &mut list), plain::Answer::Hits(3));
+//! assert_eq!(list, [10000, 10000, 2, 0, 10707, 10707, 2, 0, 11414, 11414, 2, 0, 0, 0, 0, 0]);
+//! ```
+
+mod blocks;
+mod layouts;
+mod macros;
+mod order;
+mod patterns;
+mod press;
+mod program;
+mod refusal;
+mod sine;
+mod text;
+mod words;
+
+use press::{HitList, Press};
+use program::Expander;
+use refusal::Refused;
+use text::Text;
+
+/// What a text comes to.
+#[derive(Clone, Copy, Debug, PartialEq, Eq)]
+pub enum Answer {
+    /// The program is accepted and makes this many hits.
+    Hits(usize),
+    /// The program is refused: the number of the refusal, 1 to 17, and its line, 0 for the text as a whole.
+    Refused { number: u8, line: u64 },
+}
+
+/// Expands a text into the lent list, four numbers a hit: X, Y, tool, mode.
+///
+/// The numbers after the hits, and after a refusal all numbers, are zero.
+pub fn expand(text: &[u8], list: &mut [i32]) -> Answer {
+    match expand_hits(text, list) {
+        Ok(hits) => {
+            list[4 * hits..].fill(0);
+            Answer::Hits(hits)
+        }
+        Err(refused) => {
+            list.fill(0);
+            Answer::Refused {
+                number: refused.refusal as u8,
+                line: u64::from(refused.line),
+            }
+        }
+    }
+}
+
+/// Writes the hits of a text to the start of the list and counts them.
+fn expand_hits(text: &[u8], list: &mut [i32]) -> Result<usize, Refused> {
+    let text = Text::read(text)?;
+    Expander::new(&text, Press::new(HitList::new(list))).run()
+}

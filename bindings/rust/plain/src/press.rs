@@ -1,0 +1,241 @@
+//! The press: its state, its range, and the hits that it makes.
+
+use std::num::NonZeroU8;
+
+use crate::blocks::Axes;
+use crate::patterns::Pattern;
+use crate::refusal::Refusal;
+
+/// How far from zero a place may lie, in hundredths of a millimetre.
+pub const FARTHEST: i32 = 999_999;
+
+/// A place in hundredths of a millimetre.
+#[derive(Clone, Copy, PartialEq, Eq, Debug)]
+pub struct Point {
+    pub x: i32,
+    pub y: i32,
+}
+
+impl Point {
+    pub const ZERO: Point = Point { x: 0, y: 0 };
+
+    /// The place that lies so far to the right and up.
+    pub fn plus(self, x: i32, y: i32) -> Point {
+        Point {
+            x: self.x + x,
+            y: self.y + y,
+        }
+    }
+
+    /// The place itself, unless it lies too far; refusal 15.
+    pub fn judged(self) -> Result<Point, Refusal> {
+        if is_far(self.x) || is_far(self.y) {
+            Err(Refusal::TooFar)
+        } else {
+            Ok(self)
+        }
+    }
+}
+
+/// Whether a coordinate or a reach passes the limit.
+pub fn is_far(length: i32) -> bool {
+    length.abs() > FARTHEST
+}
+
+/// How X and Y are read: G90 or G91.
+#[derive(Clone, Copy, PartialEq, Eq, Debug)]
+pub enum Reading {
+    Absolute,
+    Relative,
+}
+
+/// The number of a tool.
+pub type Tool = NonZeroU8;
+
+/// The mode of hits; the value is its number in the list.
+#[derive(Clone, Copy, PartialEq, Eq, Debug)]
+pub enum Mode {
+    Punch = 0,
+    Nibble = 1,
+}
+
+/// The range of a machine: from -10.2 mm to 10.2 mm beyond its G92 values.
+#[derive(Clone, Copy)]
+pub struct Range {
+    right: i32,
+    top: i32,
+}
+
+impl Range {
+    const MARGIN: i32 = 1_020;
+    const ARIES_222: Point = Point { x: 60_000, y: 60_000 };
+    const ARIES_224: Point = Point { x: 100_000, y: 60_000 };
+
+    /// The range of the machine that G92 names; refusal 8.
+    pub fn of_machine(corner: Point) -> Result<Range, Refusal> {
+        if corner == Range::ARIES_222 || corner == Range::ARIES_224 {
+            Ok(Range {
+                right: corner.x + Range::MARGIN,
+                top: corner.y + Range::MARGIN,
+            })
+        } else {
+            Err(Refusal::UnknownMachine)
+        }
+    }
+
+    /// Judges a hit or the end of a move; refusals 15 and 16.
+    fn judge(self, place: Point) -> Result<(), Refusal> {
+        let x_fits = (-Range::MARGIN..=self.right).contains(&place.x);
+        let y_fits = (-Range::MARGIN..=self.top).contains(&place.y);
+        if x_fits && y_fits {
+            return Ok(());
+        }
+        place.judged()?;
+        Err(Refusal::OutOfRange)
+    }
+}
+
+/// The lent list and the hits in it.
+pub struct HitList<'l> {
+    numbers: &'l mut [i32],
+    count: usize,
+}
+
+impl<'l> HitList<'l> {
+    pub fn new(numbers: &'l mut [i32]) -> HitList<'l> {
+        HitList { numbers, count: 0 }
+    }
+
+    /// Adds a hit; refusal 17.
+    fn add(&mut self, hit: [i32; 4]) -> Result<(), Refusal> {
+        let start = 4 * self.count;
+        let place = self.numbers.get_mut(start..start + 4);
+        place.ok_or(Refusal::ListFull)?.copy_from_slice(&hit);
+        self.count += 1;
+        Ok(())
+    }
+}
+
+/// What one block leaves to the next, and each copy of a part begins with.
+#[derive(Clone, Copy)]
+pub struct State {
+    pub at: Point,
+    pub origin: Point,
+    /// The origin that G72 has set for the next pattern.
+    pub waiting: Option<Point>,
+    pub reading: Reading,
+    pub mode: Mode,
+    pub tool: Option<Tool>,
+    pub memories: [Option<Pattern>; 5],
+}
+
+impl State {
+    /// Makes the place of a copy its origin and current point; no origin waits there.
+    pub fn begin_copy(&mut self, place: Point) {
+        self.origin = place;
+        self.at = place;
+        self.waiting = None;
+    }
+}
+
+/// A press that carries out positions.
+pub struct Press<'l> {
+    pub state: State,
+    range: Range,
+    list: HitList<'l>,
+}
+
+impl<'l> Press<'l> {
+    /// A press as it is before G92.
+    pub fn new(list: HitList<'l>) -> Press<'l> {
+        Press {
+            state: State {
+                at: Point::ZERO,
+                origin: Point::ZERO,
+                waiting: None,
+                reading: Reading::Absolute,
+                mode: Mode::Punch,
+                tool: None,
+                memories: [None; 5],
+            },
+            range: Range { right: 0, top: 0 },
+            list,
+        }
+    }
+
+    /// The hits made so far.
+    pub fn hits(&self) -> usize {
+        self.list.count
+    }
+
+    /// G92: names the machine and makes its corner the current point.
+    pub fn set_machine(&mut self, corner: Point) -> Result<(), Refusal> {
+        self.range = Range::of_machine(corner)?;
+        self.state.at = corner;
+        Ok(())
+    }
+
+    /// Takes on the G90 or G91 and the tool of a block, which hold for that block already.
+    pub fn choose(&mut self, reading: Option<Reading>, tool: Option<Tool>) {
+        if let Some(reading) = reading {
+            self.state.reading = reading;
+        }
+        if tool.is_some() {
+            self.state.tool = tool;
+        }
+    }
+
+    /// A: stores a pattern.
+    pub fn remember(&mut self, memory: u8, pattern: Pattern) {
+        self.state.memories[usize::from(memory) - 1] = Some(pattern);
+    }
+
+    /// B: the pattern stored; refusal 10.
+    pub fn recall(&self, memory: u8) -> Result<Pattern, Refusal> {
+        self.state.memories[usize::from(memory) - 1].ok_or(Refusal::NothingStored)
+    }
+
+    /// The place that X and Y name; an omitted axis stays.
+    fn target(&self, axes: Axes) -> Point {
+        let from = match self.state.reading {
+            Reading::Absolute => self.state.origin,
+            Reading::Relative => self.state.at,
+        };
+        Point {
+            x: axes.x.map_or(self.state.at.x, |x| from.x + x),
+            y: axes.y.map_or(self.state.at.y, |y| from.y + y),
+        }
+    }
+
+    /// A position block: drops a waiting origin and punches.
+    pub fn punch_at(&mut self, axes: Axes) -> Result<(), Refusal> {
+        self.state.waiting = None;
+        let target = self.target(axes);
+        self.hit(target)?;
+        self.state.at = target;
+        Ok(())
+    }
+
+    /// G70: a position block that only moves.
+    pub fn move_to(&mut self, axes: Axes) -> Result<(), Refusal> {
+        self.state.waiting = None;
+        let target = self.target(axes);
+        self.range.judge(target)?;
+        self.state.at = target;
+        Ok(())
+    }
+
+    /// G72: sets the origin that waits for the next pattern.
+    pub fn set_waiting(&mut self, axes: Axes) -> Result<(), Refusal> {
+        self.state.waiting = Some(self.target(axes).judged()?);
+        Ok(())
+    }
+
+    /// Makes a hit; refusals 14 to 17.
+    pub fn hit(&mut self, place: Point) -> Result<(), Refusal> {
+        let tool = self.state.tool.ok_or(Refusal::NoTool)?;
+        self.range.judge(place)?;
+        let mode = self.state.mode as i32;
+        self.list.add([place.x, place.y, i32::from(tool.get()), mode])
+    }
+}

@@ -1,0 +1,113 @@
+use super::*;
+
+/// A program for the ARIES-222 with the given blocks between G92 and G50.
+fn program(blocks: &str) -> Vec<u8> {
+    format!("G92 X600. Y600.\n{blocks}\nG50\n").into_bytes()
+}
+
+fn refusal(blocks: &str) -> (u8, u64) {
+    let refused = expand(&program(blocks), 4096).unwrap_err();
+    (refused.refusal.number(), refused.line())
+}
+
+#[test]
+fn refusals_have_their_numbers() {
+    for (index, refusal) in Refusal::ALL.into_iter().enumerate() {
+        let number = index as u8 + 1;
+        assert_eq!(refusal.number(), number);
+        assert_eq!(Refusal::try_from(number), Ok(refusal));
+    }
+    for number in [0, 18, 255] {
+        assert_eq!(Refusal::try_from(number), Err(NoSuchRefusal(number)));
+    }
+}
+
+#[test]
+fn refusals_are_told_apart_in_words() {
+    let mut words: Vec<_> = Refusal::ALL.iter().map(Refusal::to_string).collect();
+    words.sort();
+    words.dedup();
+    assert_eq!(words.len(), 17);
+}
+
+#[test]
+fn a_rack_of_eight_by_twelve_has_96_hits() {
+    let hits = expand(&program("X50. Y50. T2\nG36 I9. P11 J9. K7"), 4096).unwrap();
+    assert_eq!(hits.len(), 96);
+    assert_eq!((hits[1].x, hits[1].y), (5900, 5000));
+    assert_eq!((hits[95].x, hits[95].y), (5000, 11300));
+}
+
+#[test]
+fn copies_follow_the_layout() {
+    let layout = "G98 X20. Y100. I250. J150. P1 K1\nU1\nX10. Y10. T2\nV1\n";
+    let places = |run: &str| -> Vec<_> {
+        let hits = expand(&program(&format!("{layout}{run}")), 4).unwrap();
+        hits.iter().map(|hit| (hit.x, hit.y)).collect()
+    };
+    assert_eq!(
+        places("G76 W1 Q4"),
+        [(28000, 26000), (28000, 11000), (3000, 11000), (3000, 26000)]
+    );
+    assert_eq!(
+        places("G75 W1 Q4"),
+        [(28000, 26000), (3000, 26000), (3000, 11000), (28000, 11000)]
+    );
+}
+
+#[test]
+fn modes_and_tools_are_given() {
+    let hits = expand(&program("X10. T7\nM12\nX20.\nM13\nX30. T99"), 3).unwrap();
+    let given: Vec<_> = hits.iter().map(Hit::to_string).collect();
+    assert_eq!(given, ["1000 60000 7 P", "2000 60000 7 N", "3000 60000 99 P"]);
+}
+
+#[test]
+fn refusals_give_number_and_line() {
+    assert_eq!(refusal("X610.21 T2"), (16, 2));
+    assert_eq!(refusal("U60\nW60\nV60\nW60"), (11, 3));
+    assert_eq!(refusal("X1. T2\n\nG28 I9999. J0 K2"), (15, 4));
+    assert_eq!(refusal("?"), (2, 2));
+}
+
+#[test]
+fn a_text_of_wrong_length_has_no_line() {
+    for text in [&b""[..], &[b' '; 60_001]] {
+        let refused = expand(text, 1).unwrap_err();
+        assert_eq!(refused.refusal, Refusal::TextLength);
+        assert_eq!(refused.line, None);
+        assert_eq!(
+            refused.to_string(),
+            "refusal 1: the text is empty or has more than 60,000 bytes"
+        );
+    }
+}
+
+#[test]
+fn empty_lists_are_allowed() {
+    assert_eq!(expand_into(&program(""), &mut []), Ok(0));
+    let refused = expand_into(&program("X1. T2"), &mut []).unwrap_err();
+    assert_eq!(refused.refusal, Refusal::ListFull);
+}
+
+#[test]
+fn the_rest_of_the_list_is_zero() {
+    let mut list = [-1; 11];
+    assert_eq!(expand_into(&program("X1. Y2. T3"), &mut list), Ok(1));
+    assert_eq!(list, [100, 200, 3, 0, 0, 0, 0, 0, 0, 0, 0]);
+    let mut list = [-1; 7];
+    assert!(expand_into(&program("X1. Y2. T3\nX2."), &mut list).is_err());
+    assert_eq!(list, [0; 7]);
+}
+
+#[test]
+#[should_panic(expected = "gives refusal 18")]
+fn an_unknown_refusal_is_caught() {
+    Refused::from_numbers(18, 1);
+}
+
+#[test]
+#[should_panic(expected = "gives the hit")]
+fn a_hit_without_tool_is_caught() {
+    Hit::from_numbers(&[0, 0, 0, 0]);
+}
