@@ -37,7 +37,11 @@ fn not_negative(v: Word) -> bool
 fn whole(v: Word, least: u32, most: u32) -> bool
     ensures { λ r. ⌜ r ≡ passes (whole least most) v ⌝ }
 {
-    !v.written | (is_plain(v) & within(least, most, size_of(v)))
+    if v.written {
+        is_plain(v) & within(least, most, size_of(v))
+    } else {
+        true
+    }
 }
 
 // A whole number of a size between bounds, which may have a sign.

@@ -13,7 +13,10 @@ within-requires : tie.Need-within-requires
 within-requires c κs = search needs
 
 returns : tie.Need-returns
-returns c = simp (c .before .before .is-plain .ensures, c .within .ensures, c .before .size-of .ensures)
+returns c = simp (c .before .before .before .if1 .taken, c .before .before .is-plain .ensures, c .within .ensures, c .before .size-of .ensures)
+
+returns-2 : tie.Need-returns-2
+returns-2 c = search needs
 
 pub whole-spec : {M : Type 1} → statement M
-whole-spec = tie.close (tie.spec is-plain-requires size-of-requires within-requires returns)
+whole-spec = tie.close (tie.spec is-plain-requires size-of-requires within-requires returns returns-2)
