@@ -1,3 +1,4 @@
 pub mod CopyAll
 pub mod CopyPart
 pub mod CopyPlace
+pub mod Resuming

@@ -7,7 +7,7 @@ use Rattle.aries.specs.declared.block.Layout.{Layout}
 use Rattle.aries.specs.declared.macros.Macros.{Macros}
 use Rattle.aries.specs.declared.setup.Setup.{Setup}
 use Rattle.aries.specs.declared.state.Progress.{Progress}
-use Rattle.aries.specs.Outcome.{Out}
+use Rattle.aries.specs.Outcome.{Out, refused}
 use Rattle.aries.specs.Test.{pick}
 use Rattle.aries.specs.Hits.{Made, still}
 use Rattle.aries.specs.Judging.{Judging}
@@ -15,6 +15,10 @@ use Rattle.aries.specs.Macros.{call, mostCalls, runLines, runBody}
 use Rattle.aries.specs.Text.{lines}
 use Rattle.aries.specs.Setup.{ordinaryFrame}
 use Rattle.bodies.specs.declared.Opening.{Opening}
+use Rattle.bodies.specs.declared.ordinary.Stretch.{Stretch}
+use Rattle.aries.specs.declared.state.Frame.{Frame}
+use Rattle.aries.specs.declared.state.Status.{Status}
+use Rattle.aries.specs.declared.state.Status.the-variants.{Passed, Refused}
 use Rattle.aries.specs.Layouts.{Part, copyCount, copyPlace, copyAll}
 
 -- the last place of a lane: G75 goes along X, row by row, G76 along Y, column by column
@@ -32,6 +36,15 @@ bodyPart j text m first body f g = runBody j text m (mostCalls - 1) f first body
 -- the same from the body's first block on
 abbrev pub openedPart : Judging → List ℕ → Macros → Opening → List ℕ → Part
 openedPart j text m o body f g = runLines j (call j text m f (mostCalls - 1)) f (o .line) (lines (drop (o .at) body)) g
+
+-- what is left of a part behind a row of ordinary blocks
+abbrev pub restOf : Judging → List ℕ → Macros → Frame → List ℕ → Stretch → Out (Made Progress)
+restOf j text m f body r = runLines j (call j text m f (mostCalls - 1)) f (r .line) (lines (drop (r .at) body)) (r .progress)
+
+-- goes on unless there was a refusal
+abbrev pub resume : Status → Out (Made Progress) → Out (Made Progress)
+resume Passed out = out
+resume (Refused number line) out = refused number line
 
 -- a part without a block
 abbrev pub blankPart : Part

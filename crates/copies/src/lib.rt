@@ -2,6 +2,7 @@
 use aries::block::Copies;
 use aries::block::Layout;
 use aries::macros::Found;
+use aries::macros::Macros;
 use aries::point::Point;
 use aries::refusal;
 use aries::setup::Setup;
@@ -12,6 +13,8 @@ use aries::state::Progress;
 use aries::state::State;
 use aries::state::Status;
 use bodies::Opening;
+use bodies::ordinary::Stretch;
+use bodies::ordinary::run_ordinary;
 use lanes::Cursor;
 ghost use mathlib.Core.Path.{_≡_};
 ghost use lib.ListN.{length};
@@ -20,7 +23,7 @@ ghost use Rattle.aries.specs.Layouts.{copyStart, copyPart};
 ghost use Rattle.aries.specs.Macros.{Within};
 ghost use Rattle.aries.specs.Runs.{Carried};
 ghost use Rattle.bodies.specs.Ordinary.{AtBlock};
-ghost use Rattle.copies.specs.Copying.{openedPart, allCopies};
+ghost use Rattle.copies.specs.Copying.{openedPart, allCopies, resume, restOf};
 
 pub mod blank; // copies of a part without a block
 pub mod places; // where the copies lie, and in which order
@@ -30,6 +33,45 @@ pub fn copy_start(found: State, place: Point) -> State
     ensures { λ r. ⌜ r ≡ copyStart found place ⌝ }
 {
     found.dropping().moved_to(place)
+}
+
+// What a row of ordinary blocks leaves that goes on to the end of the body.
+fn ended(row: Stretch) -> Outcome
+    ensures { λ r. ⌜ r ≡ record { status = row .status; progress = row .progress } ⌝ }
+{
+    let status = row.status;
+    let progress = row.progress;
+    Outcome { status, progress }
+}
+
+// The rest of a copy behind its first row of ordinary blocks, unless that was refused.
+fn finish(
+    list: &mut [i32],
+    text: &[u8],
+    body: &[u8],
+    macros: Macros,
+    frame: Frame,
+    row: Stretch,
+) -> Outcome
+    requires { ⌜ (Within macros (length (now text))) × (AtBlock (now body) (row .at) (row .line)) ⌝ }
+    ensures { λ r. ⌜ Carried r (now (list .entry)) (now (list .exit)) (row .progress .hits) (resume (row .status) (restOf (lent (length (now (list .entry)))) (now (text .entry)) macros frame (now (body .entry)) row)) ⌝ }
+{
+    let status = row.status;
+    let progress = row.progress;
+    if let Status::Refused(number, place) = status {
+        return Outcome::refused(number, place, progress);
+    }
+    bodies::run_body(
+        bodies::FURTHER_CALLS,
+        list,
+        text,
+        body,
+        row.at,
+        row.line,
+        macros,
+        frame,
+        progress,
+    )
 }
 
 // Copies a part, place after place up to the first refusal. Each copy begins with the state found, at the body's first
@@ -68,17 +110,13 @@ fn copy_body(
             origin: point,
         };
         let begun = now.with_state(copy_start(found, point));
-        let outcome = bodies::run_body(
-            bodies::FURTHER_CALLS,
-            list,
-            text,
-            body,
-            opening.at,
-            opening.line,
-            macros,
-            frame,
-            begun,
-        );
+        let row = run_ordinary(list, body, opening.at, opening.line, frame, begun);
+        let stop = row.at;
+        let outcome = if stop < body.len() {
+            finish(list, text, body, macros, frame, row)
+        } else {
+            ended(row)
+        };
         let status = outcome.status;
         if let Status::Refused(_, _) = status {
             return outcome;

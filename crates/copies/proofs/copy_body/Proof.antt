@@ -3,6 +3,7 @@
 use borrow.Author.Needs.{needs}
 use mathlib.Core.Path.{_≡_, refl, sym, ap, _∙_}
 use mathlib.Core.Bool.{true, false}
+use mathlib.Core.Logic.{inl, inr}
 use Prim.Native.Nat.{ℕ, _-_, _<_, _≤_}
 use native.Mathlib.Omega.{arith}
 use borrow.Author.Tests.{not-true, not-false}
@@ -16,7 +17,9 @@ use Rattle.aries.specs.Setup.{ordinaryFrame}
 use Rattle.aries.proofs.Runs.{Leads, leads-start, leads-as, leads-end}
 use Rattle.lanes.specs.Cursors.{cursorAt}
 use Rattle.lanes.proofs.Cursors.{at-zero}
-use Rattle.copies.specs.Copying.{openedPart}
+use Rattle.aries.specs.Macros.{call, mostCalls}
+use Rattle.copies.specs.Copying.{openedPart, resume, restOf}
+use Rattle.copies.proofs.Resuming.{resumed, ended-resumes}
 use Rattle.copies.proofs.CopyPlace.{cursor-inside, place-here, may-advance, advanced}
 use Rattle.copies.proofs.CopyAll.{hits, copies-end, turn-far, turn-refused, turn-passed}
 use Rattle.copies.proofs.copy_body.Statement.{statement}
@@ -61,11 +64,34 @@ lies c = c .point .ensures ∙ place-is (c .before .before .before)
 begins : (c : tie.After-with-state Inv-loop μ-loop) → c .with-state .result ≡ withState (c .before .before .before .before .before .before .before .loop .now) (copyStart (c .before .before .before .before .before .before .before .before .before .before .before .before .before .before .before .before .args .progress .state) (c .before .before .point .result))
 begins c = c .with-state .ensures ∙ ap (withState (c .before .before .before .before .before .before .before .loop .now)) (c .before .copy-start .ensures)
 
--- and carries the body out
-ran : (c : tie.After-run-body Inv-loop μ-loop) → let a = c .before .before .before .before .before .before .before .before .before .before .before .before .before .before .before .before .before .before .args in let n = length (a .list .now) in let b = c .run-body in
-    Ran hits (b .result .status) (b .result .progress) (c .before .before .before .before .before .before .before .before .before .loop .list) (b .last .1 .0) (c .before .before .with-state .result .hits)
-    (openedPart (lent n) (a .text .now) (a .setup .macros) (a .opening) (a .body .now) (frameAt (ordinaryFrame (a .setup)) (c .before .before .before .before .point .result)) (c .before .before .with-state .result))
-ran c = rw (c .before .before .before .before .before .before .before .before .before .loop .inv .2) at (c .run-body .ensures)
+-- and carries the body out: ordinary blocks in a row, and then what is left
+came-how : (c : tie.Joined2 Inv-loop μ-loop) → let a = c .before .before .before .before .before .before .before .before .before .before .before .before .before .before .before .before .before .before .before .before .args in let n = length (a .list .now) in
+    (Ran hits (c .if2 .outcome .status) (c .if2 .outcome .progress) (c .before .before .run-ordinary .last .0) (c .if2 .list) (c .before .before .run-ordinary .result .progress .hits)
+    (resume (c .before .before .run-ordinary .result .status) (restOf (lent n) (a .text .now) (a .setup .macros) (frameAt (ordinaryFrame (a .setup)) (c .before .before .before .before .before .before .point .result)) (a .body .now) (c .before .before .run-ordinary .result))))
+    × (length (c .if2 .list) ≡ length (c .before .before .run-ordinary .last .0))
+came-how c =
+    let a = c .before .before .before .before .before .before .before .before .before .before .before .before .before .before .before .before .before .before .before .before .args in
+    let n = length (a .list .now) in
+    let f = frameAt (ordinaryFrame (a .setup)) (c .before .before .before .before .before .before .point .result) in
+    let r = c .before .before .run-ordinary in
+    let same = r .kept .0 ∙ c .before .before .before .before .before .before .before .before .before .before .before .loop .inv .2 in
+    elim (c .if2 .came) [
+      | inl x ↦ rw (x .4, x .5) (rw same at (x .2 .ensures), x .2 .kept .0)
+      | inr y ↦
+          rw (y .2, y .3)
+          (rw (y .1 .ensures) (ended-resumes (lent n) (call (lent n) (a .text .now) (a .setup .macros) f (mostCalls - 1)) f (a .body .now) (r .result) (r .last .0) (y .0 .left)), refl)
+    ]
+
+ran : (c : tie.Joined2 Inv-loop μ-loop) → let a = c .before .before .before .before .before .before .before .before .before .before .before .before .before .before .before .before .before .before .before .before .args in let n = length (a .list .now) in
+    Ran hits (c .if2 .outcome .status) (c .if2 .outcome .progress) (c .before .before .before .before .before .before .before .before .before .before .before .loop .list) (c .if2 .list) (c .before .before .before .before .with-state .result .hits)
+    (openedPart (lent n) (a .text .now) (a .setup .macros) (a .opening) (a .body .now) (frameAt (ordinaryFrame (a .setup)) (c .before .before .before .before .before .before .point .result)) (c .before .before .before .before .with-state .result))
+ran c =
+    let a = c .before .before .before .before .before .before .before .before .before .before .before .before .before .before .before .before .before .before .before .before .args in
+    let n = length (a .list .now) in
+    let f = frameAt (ordinaryFrame (a .setup)) (c .before .before .before .before .before .before .point .result) in
+    let r = c .before .before .run-ordinary in
+    resumed (lent n) (call (lent n) (a .text .now) (a .setup .macros) f (mostCalls - 1)) f (a .body .now) (a .opening .at) (a .opening .line) (c .before .before .before .before .with-state .result) (r .result) (c .before .before .before .before .before .before .before .before .before .before .before .loop .list) (r .last .0) (c .if2 .list)
+    (c .if2 .outcome .status) (c .if2 .outcome .progress) (rw (c .before .before .before .before .before .before .before .before .before .before .before .loop .inv .2) at (r .ensures)) (came-how c .0)
 
 lane-end-requires : tie.Need-lane-end-requires Inv-loop μ-loop
 lane-end-requires c κs = search needs
@@ -121,55 +147,61 @@ copy-start-requires c κs = search needs
 with-state-requires : tie.Need-with-state-requires Inv-loop μ-loop
 with-state-requires c κs = search needs
 
-run-body-requires : tie.Need-run-body-requires Inv-loop μ-loop
-run-body-requires c κs = c .before .before .before .before .before .before .before .before .before .before .before .before .before .before .before .before .before .pre
+run-ordinary-requires : tie.Need-run-ordinary-requires Inv-loop μ-loop
+run-ordinary-requires c κs = c .before .before .before .before .before .before .before .before .before .before .before .before .before .before .before .before .before .pre .1
+
+finish-requires : tie.Need-finish-requires Inv-loop μ-loop
+finish-requires c κs = (c .before .before .before .before .before .before .before .before .before .before .before .before .before .before .before .before .before .before .before .before .before .pre .0, c .before .before .before .run-ordinary .ensures .stops)
+
+ended-requires : tie.Need-ended-requires Inv-loop μ-loop
+ended-requires c κs = search needs
 
 enum-told : tie.Need-enum-told Inv-loop μ-loop
 enum-told c = search needs
 
 same-length-2 : tie.Need-same-length-2 Inv-loop μ-loop
-same-length-2 c = c .before .before .before .run-body .kept .1 .0 ∙ c .before .before .before .before .before .before .before .before .before .before .before .before .loop .inv .2
+same-length-2 c = came-how (c .before .before) .1 ∙ c .before .before .before .before .run-ordinary .kept .0 ∙ c .before .before .before .before .before .before .before .before .before .before .before .before .before .loop .inv .2
 
 returns-2 : tie.Need-returns-2 Inv-loop μ-loop
 returns-2 c =
-    let a = c .before .before .before .before .before .before .before .before .before .before .before .before .before .before .before .before .before .before .before .before .before .args in
-    let p = c .before .before .before .before .before .before .before .before .before .before .before .before .loop in
-    let b = c .before .before .before .run-body in
+    let a = c .before .before .before .before .before .before .before .before .before .before .before .before .before .before .before .before .before .before .before .before .before .before .args in
+    let p = c .before .before .before .before .before .before .before .before .before .before .before .before .before .loop in
+    let b = c .before .before .if2 in
     turn-refused (length (a .list .now)) (openedPart (lent (length (a .list .now))) (a .text .now) (a .setup .macros) (a .opening) (a .body .now)) (ordinaryFrame (a .setup)) (a .line) (a .progress .state)
-    (copyPlace (a .setup .origin) (a .layout) (a .copies)) (c .before .before .before .before .before .before .before .before .before .before .before .before .before .before .copy-count .result) (p .m) (p .now) (p .list) (a .list .now) (a .progress .hits) _ (c .before .before .before .before .before .before .before .before .before .before .before .loop-test .taken) (p .inv .3)
-    (c .before .before .before .before .before .before .before .point .result) (c .before .before .before .before .before .with-state .result) (b .result .progress) (b .result .status) (b .last .1 .0) (lies (c .before .before .before .before .before .before .before)) (begins (c .before .before .before .before .before)) (is-close (c .before .before .before .before .before .before .before .before)) (ran (c .before .before .before)) _ _ (c .enum-told .given .1)
+    (copyPlace (a .setup .origin) (a .layout) (a .copies)) (c .before .before .before .before .before .before .before .before .before .before .before .before .before .before .before .copy-count .result) (p .m) (p .now) (p .list) (a .list .now) (a .progress .hits) _ (c .before .before .before .before .before .before .before .before .before .before .before .before .loop-test .taken) (p .inv .3)
+    (c .before .before .before .before .before .before .before .before .point .result) (c .before .before .before .before .before .before .with-state .result) (b .outcome .progress) (b .outcome .status) (b .list) (lies (c .before .before .before .before .before .before .before .before)) (begins (c .before .before .before .before .before .before)) (is-close (c .before .before .before .before .before .before .before .before .before)) (ran (c .before .before)) _ _ (c .enum-told .given .1)
 
 enum-told-2 : tie.Need-enum-told-2 Inv-loop μ-loop
 enum-told-2 c = search needs
 
 add-m : tie.Need-add-m Inv-loop μ-loop
-add-m c = record { fits = omega (arith, c .before .before .before .before .before .before .before .before .before .before .before .before .loop-test .taken, c .before .before .before .before .before .before .before .before .before .before .before .before .before .before .before .copy-count .ok) }
+add-m c = record { fits = omega (arith, c .before .before .before .before .before .before .before .before .before .before .before .before .before .loop-test .taken, c .before .before .before .before .before .before .before .before .before .before .before .before .before .before .before .before .copy-count .ok) }
 
 advance-requires : tie.Need-advance-requires Inv-loop μ-loop
 advance-requires c κs =
-    let a = c .before .before .before .before .before .before .before .before .before .before .before .before .before .before .before .before .before .before .before .before .before .before .args in
-    let p = c .before .before .before .before .before .before .before .before .before .before .before .before .before .loop in
-    let l = c .before .before .before .before .before .before .before .before .before .before .before .before .before .before .before .before .lane-end in
-    let n = c .before .before .before .before .before .before .before .before .before .before .before .before .before .before .before .copy-count in
-    let s = steps-fit (c .before .before .before .before .before .before .before .before .before .before .before .before .before .before .before .before .before .before .before .before .before .before) in
-    may-advance (a .layout) (a .copies) (l .result) (n .result) (p .m) (p .cursor) (l .ensures) (n .ensures) (c .before .before .before .before .before .before .before .before .before .before .before .before .loop-test .taken) (p .inv .1 (c .before .before .before .before .before .before .before .before .before .before .before .before .loop-test .taken)) (s .0) (s .1)
-
-loop-less : tie.Need-loop-less Inv-loop μ-loop
-loop-less c = search needs
-
-loop-again : tie.Need-loop-again Inv-loop μ-loop
-loop-again c =
     let a = c .before .before .before .before .before .before .before .before .before .before .before .before .before .before .before .before .before .before .before .before .before .before .before .args in
     let p = c .before .before .before .before .before .before .before .before .before .before .before .before .before .before .loop in
     let l = c .before .before .before .before .before .before .before .before .before .before .before .before .before .before .before .before .before .lane-end in
     let n = c .before .before .before .before .before .before .before .before .before .before .before .before .before .before .before .before .copy-count in
-    let b = c .before .before .before .before .before .run-body in (
-      omega (arith, c .before .before .before .before .before .before .before .before .before .before .before .before .before .loop-test .taken),
-      advanced (a .layout) (a .copies) (l .result) (n .result) (p .m) (p .cursor) (l .ensures) (n .ensures) (c .before .before .before .before .before .before .before .before .before .before .before .before .before .loop-test .taken) (p .inv .1 (c .before .before .before .before .before .before .before .before .before .before .before .before .before .loop-test .taken)) (c .advance .result) (c .advance .ensures),
-      b .kept .1 .0 ∙ p .inv .2,
+    let s = steps-fit (c .before .before .before .before .before .before .before .before .before .before .before .before .before .before .before .before .before .before .before .before .before .before .before) in
+    may-advance (a .layout) (a .copies) (l .result) (n .result) (p .m) (p .cursor) (l .ensures) (n .ensures) (c .before .before .before .before .before .before .before .before .before .before .before .before .before .loop-test .taken) (p .inv .1 (c .before .before .before .before .before .before .before .before .before .before .before .before .before .loop-test .taken)) (s .0) (s .1)
+
+loop-less : tie.Need-loop-less Inv-loop μ-loop
+loop-less c = omega (arith, c .before .before .before .before .before .before .before .before .before .before .before .before .before .before .loop-test .taken)
+
+loop-again : tie.Need-loop-again Inv-loop μ-loop
+loop-again c =
+    let a = c .before .before .before .before .before .before .before .before .before .before .before .before .before .before .before .before .before .before .before .before .before .before .before .before .args in
+    let p = c .before .before .before .before .before .before .before .before .before .before .before .before .before .before .before .loop in
+    let l = c .before .before .before .before .before .before .before .before .before .before .before .before .before .before .before .before .before .before .lane-end in
+    let n = c .before .before .before .before .before .before .before .before .before .before .before .before .before .before .before .before .before .copy-count in
+    let b = c .before .before .before .before .if2 in (
+      omega (arith, c .before .before .before .before .before .before .before .before .before .before .before .before .before .before .loop-test .taken),
+      advanced (a .layout) (a .copies) (l .result) (n .result) (p .m) (p .cursor) (l .ensures) (n .ensures) (c .before .before .before .before .before .before .before .before .before .before .before .before .before .before .loop-test .taken) (p .inv .1 (c .before .before .before .before .before .before .before .before .before .before .before .before .before .before .loop-test .taken)) (c .advance .result) (c .advance .ensures),
+      came-how (c .before .before .before .before) .1 ∙ c .before .before .before .before .before .before .run-ordinary .kept .0 ∙ p .inv .2,
       turn-passed (length (a .list .now)) (openedPart (lent (length (a .list .now))) (a .text .now) (a .setup .macros) (a .opening) (a .body .now)) (ordinaryFrame (a .setup)) (a .line) (a .progress .state)
-          (copyPlace (a .setup .origin) (a .layout) (a .copies)) (c .before .before .before .before .before .before .before .before .before .before .before .before .before .before .before .before .copy-count .result) (p .m) (p .now) (p .list) (a .list .now) (a .progress .hits) _ (c .before .before .before .before .before .before .before .before .before .before .before .before .before .loop-test .taken) (p .inv .3)
-          (c .before .before .before .before .before .before .before .before .before .point .result) (c .before .before .before .before .before .before .before .with-state .result) (b .result .progress) (b .result .status) (b .last .1 .0) (lies (c .before .before .before .before .before .before .before .before .before)) (begins (c .before .before .before .before .before .before .before)) (is-close (c .before .before .before .before .before .before .before .before .before .before)) (ran (c .before .before .before .before .before)) (c .before .before .enum-told2 .given .1),
+          (copyPlace (a .setup .origin) (a .layout) (a .copies)) (c .before .before .before .before .before .before .before .before .before .before .before .before .before .before .before .before .before .copy-count .result) (p .m) (p .now) (p .list) (a .list .now) (a .progress .hits) _ (c .before .before .before .before .before .before .before .before .before .before .before .before .before .before .loop-test .taken) (p .inv .3)
+          (c .before .before .before .before .before .before .before .before .before .before .point .result) (c .before .before .before .before .before .before .before .before .with-state .result) (b .outcome .progress) (b .outcome .status) (b .list) (lies (c .before .before .before .before .before .before .before .before .before .before)) (begins (c .before .before .before .before .before .before .before .before)) (is-close (c .before .before .before .before .before .before .before .before .before .before .before)) (ran (c .before .before .before .before)) (c .before .before .enum-told2 .given .1),
     )
 
 passed-requires : tie.Need-passed-requires Inv-loop μ-loop
@@ -204,7 +236,9 @@ copy-body-spec =
     point-requires
     copy-start-requires
     with-state-requires
-    run-body-requires
+    run-ordinary-requires
+    finish-requires
+    ended-requires
     enum-told
     same-length-2
     returns-2
