@@ -157,7 +157,7 @@ module _ {E : Type 0} (j : Judging) (bounds : Bool) (v : Point) (w : Bounds E j 
   pattern-follows : (f : Frame) (line : ℕ) (p : Pattern) → pattern j (movedFrame v f) line p beside pattern free f line p
   unfolding pattern
   pattern-follows f line p s n n′ =
-      rw (start-moves v (s .waiting) (s .current))
+      rw (start-moves v (s .waiting .origin) (s .current))
       (follows-need 15 line (w .reach (reaches p))
       (ending-follows p (startOf s) (punches-follow f line p (startOf s) (holes p) 0 (movedTo (dropping s) (startOf s)) n n′)))
 

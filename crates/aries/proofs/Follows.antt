@@ -29,7 +29,7 @@ abbrev pub movedState : Point → State → State
 movedState v s =
     record {
       current = s .current ⊕ v;
-      waiting = movedWaiting v (s .waiting);
+      waiting = record { origin = movedWaiting v (s .waiting .origin) };
       incremental = s .incremental;
       nibble = s .nibble;
       tool = s .tool;

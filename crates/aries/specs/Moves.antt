@@ -43,7 +43,7 @@ abbrev pub movedTo : State → Point → State
 movedTo s p = record { current = p; waiting = s .waiting; incremental = s .incremental; nibble = s .nibble; tool = s .tool; memories = s .memories }
 
 abbrev pub waitingFor : State → Waiting → State
-waitingFor s w = record { current = s .current; waiting = w; incremental = s .incremental; nibble = s .nibble; tool = s .tool; memories = s .memories }
+waitingFor s w = record { current = s .current; waiting = record { origin = w }; incremental = s .incremental; nibble = s .nibble; tool = s .tool; memories = s .memories }
 
 abbrev pub inMode : State → Bool → State
 inMode s n = record { current = s .current; waiting = s .waiting; incremental = s .incremental; nibble = n; tool = s .tool; memories = s .memories }
@@ -71,7 +71,7 @@ dropping s = waitingFor s Unset
 
 -- At the start G90 holds, the mode is P, no tool is chosen and nothing is stored.
 abbrev pub freshState : State
-freshState = record { current = zeroPoint; waiting = Unset; incremental = false; nibble = false; tool = 0; memories = replicate 5 (record { stored = Stored.Empty }) }
+freshState = record { current = zeroPoint; waiting = record { origin = Unset }; incremental = false; nibble = false; tool = 0; memories = replicate 5 (record { stored = Stored.Empty }) }
 
 abbrev pub withState : Progress → State → Progress
 withState g s = record { state = s; blocks = g .blocks; hits = g .hits }

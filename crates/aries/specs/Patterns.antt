@@ -83,7 +83,7 @@ startAt Unset current = current
 startAt (At origin) current = origin
 
 abbrev pub startOf : State → Point
-startOf s = startAt (s .waiting) (s .current)
+startOf s = startAt (s .waiting .origin) (s .current)
 
 -- The waiting origin is used up, and without hits the current point is the start.
 abbrev pub starting : Progress → Progress

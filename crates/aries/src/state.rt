@@ -28,6 +28,11 @@ pub enum Waiting {
     At(Point),
 }
 
+// What waits, as a part of the state that is replaced as a whole.
+pub struct Pending {
+    pub origin: Waiting,
+}
+
 // A pattern memory.
 pub enum Stored {
     Empty,
@@ -41,7 +46,7 @@ pub struct Memory {
 // The punching state: what a block of a body leaves to the next. A tool of 0 is none chosen.
 pub struct State {
     pub current: Point,
-    pub waiting: Waiting,
+    pub waiting: Pending,
     pub incremental: bool,
     pub nibble: bool,
     pub tool: u8,
@@ -58,9 +63,12 @@ impl State {
             stored: Stored::Empty,
         };
         let memories = [empty; 5];
+        let waiting = Pending {
+            origin: Waiting::Unset,
+        };
         State {
             current,
-            waiting: Waiting::Unset,
+            waiting,
             incremental: false,
             nibble: false,
             tool: 0,
@@ -77,19 +85,12 @@ impl State {
     }
 
     // The state with this as what waits.
-    pub fn waiting_for(self, waiting: Waiting) -> State
-        ensures { λ r. ⌜ r ≡ waitingFor self waiting ⌝ }
+    pub fn waiting_for(mut self, origin: Waiting) -> State
+        ensures { λ r. ⌜ r ≡ waitingFor self origin ⌝ }
     {
-        let current = self.current;
-        let memories = self.memories;
-        State {
-            current,
-            waiting,
-            incremental: self.incremental,
-            nibble: self.nibble,
-            tool: self.tool,
-            memories,
-        }
+        let waiting = Pending { origin };
+        self.waiting = waiting;
+        self
     }
 
     // The state with no pattern origin waiting.
@@ -161,9 +162,10 @@ impl State {
         ensures { λ r. ⌜ r ≡ startOf self ⌝ }
     {
         let waiting = self.waiting;
-        match waiting {
+        let origin = waiting.origin;
+        match origin {
             Waiting::Unset => self.current,
-            Waiting::At(origin) => origin,
+            Waiting::At(place) => place,
         }
     }
 

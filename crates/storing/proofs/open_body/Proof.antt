@@ -3,7 +3,8 @@ use mathlib.Core.Path.{_≡_, refl, sym, ap, _∙_}
 use mathlib.Core.Option.{some}
 use Prim.Native.Nat.{ℕ, _+_, _-_, _≤_, _<_}
 use native.Mathlib.Omega.{arith}
-use borrow.Author.Needs.{needs}
+use borrow.Author.Needs.{needs, length-unmapped}
+use denote.Struct.Field.{u16-field}
 use lib.ListN.{length, drop}
 use Rattle.aries.specs.Bodies.{bodySize}
 use Rattle.aries.specs.Judging.{lent}
@@ -21,8 +22,9 @@ use Rattle.storing.proofs.open_body.Tie as tie
 -- the arrays of places are of 90 numbers
 one-length : (c : tie.Start) → OneLength (c .args .program .setup .macros)
 one-length c =
-    let a : length (c .args .program .setup .macros .start) ≡ 90 = search needs in
-    let b : length (c .args .program .setup .macros .end) ≡ 90 = search needs in
+    let m = c .good .1 .1 .1 .1 .1 .0 .1 .1 .1 .0 .1 .1 .1 .1 .1 .1 .0 in
+    let a : length (c .args .program .setup .macros .start) ≡ 90 = length-unmapped (u16-field .Value) (c .args .program .setup .macros .start) 90 (m .1 .1 .0 .1 .0 .1) in
+    let b : length (c .args .program .setup .macros .end) ≡ 90 = length-unmapped (u16-field .Value) (c .args .program .setup .macros .end) 90 (m .1 .1 .1 .0 .1 .0 .1) in
     omega arith
 
 -- what is known of a body that is found
