@@ -108,8 +108,9 @@ A case is a program text in `data/` with a list length. `args` has, for each cas
 `stdout` has the name, the length and the answer as hitlist prints it. A name says what its case tests, so that the first
 line that differs explains itself. The answers were worked out from the rules and not taken from the program.
 
-The table of cases, each with the answer worked out by hand, is in `derive/`, beside an expander of its own that is
-written from the rules alone. `derive/check.py` compares the two, and `derive/check.py .` writes all files anew.
+The table of cases is in `derive/`, each with what was worked out by hand: a refusal's number and line, or the count of
+hits and some of them. Beside it is an expander of its own, written from the rules alone, which gives all hits.
+`derive/check.py` compares the two, and `derive/check.py .` writes all files anew.
 
 In the tables a slash stands for a line feed; a long text, or one with other bytes, is in its file. Lines count from 1,
 blank ones too. The list has 16,384 numbers, so places for 4,096 hits, unless another length is given. An answer is a
