@@ -29,7 +29,7 @@ use Rattle.aries.specs.Macros.{storing, characters, mostCalls, carry, ca
 use Rattle.aries.specs.Layouts.{copyPart}
 use Rattle.aries.specs.Bodies.{startsWith, bodySize}
 use Rattle.aries.specs.Setup.{withMachine, withMacros, referenceOf, withProgress, withSetup, withOrigin, atStage, started, setMachine, setOrdinary, offsetBy, ordinaryFrame, mostCharacters, stored, firstRun, openBody}
-use Rattle.aries.specs.Program.{begunOutside, inPlace, ordinary, carryOut, isStoring, passOver, runBlockOutside, runLineOutside, runFrom}
+use Rattle.aries.specs.Program.{begunOutside, inPlace, asInBody, carryOut, isStoring, passOver, runBlockOutside, runLineOutside, runFrom}
 use Rattle.aries.proofs.Outcomes.{refused≢done, done-injective, then-accepted}
 
 -- what is accepted leaves a setup with the property
@@ -94,9 +94,9 @@ module _ (P : Setup → Type 0) where
             keeps-leaving (stored p (storing (p .setup .macros) n next (next + size) (suc line))) (firstRun j text n next size line p)
             (λ g. storing-keeps (p .setup) n size line e o)
 
-    ordinary-keeps : (j : Judging) (line : ℕ) (b : Block) (p : Program) → P (p .setup) → Keeps P (ordinary j text line b p)
+    as-in-body-keeps : (j : Judging) (line : ℕ) (b : Block) (p : Program) → P (p .setup) → Keeps P (asInBody j text line b p)
     unfolding carry call
-    ordinary-keeps j line b p o =
+    as-in-body-keeps j line b p o =
         keeps-leaving (withProgress p)
         (carry j (call j text (p .setup .macros) (ordinaryFrame (p .setup)) mostCalls) (ordinaryFrame (p .setup)) line b (p .progress))
         (λ g. o)
@@ -107,19 +107,19 @@ module _ (P : Setup → Type 0) where
     unfolding carryOut setMachine
     carryOut-keeps j line (Block.Machine q) p o = started-keeps p q line (named q) o
     carryOut-keeps j line Block.End p o = keeps-done _ o
-    carryOut-keeps j line Block.Read p o = ordinary-keeps j line Block.Read p o
-    carryOut-keeps j line (Block.Punch a t) p o = ordinary-keeps j line (Block.Punch a t) p o
-    carryOut-keeps j line (Block.Move a t) p o = ordinary-keeps j line (Block.Move a t) p o
-    carryOut-keeps j line (Block.Origin a) p o = ordinary-keeps j line (Block.Origin a) p o
+    carryOut-keeps j line Block.Read p o = as-in-body-keeps j line Block.Read p o
+    carryOut-keeps j line (Block.Punch a t) p o = as-in-body-keeps j line (Block.Punch a t) p o
+    carryOut-keeps j line (Block.Move a t) p o = as-in-body-keeps j line (Block.Move a t) p o
+    carryOut-keeps j line (Block.Origin a) p o = as-in-body-keeps j line (Block.Origin a) p o
     carryOut-keeps j line (Block.Offset a) p o = setOrdinary-keeps j line (p .setup .sheet) (offsetBy a (p .setup .offset)) p o
     carryOut-keeps j line (Block.Place l) p o = setOrdinary-keeps j line (LaidOut l) (p .setup .offset) p o
-    carryOut-keeps j line (Block.Run q t a) p o = ordinary-keeps j line (Block.Run q t a) p o
-    carryOut-keeps j line (Block.Recall k) p o = ordinary-keeps j line (Block.Recall k) p o
-    carryOut-keeps j line (Block.Nibble b) p o = ordinary-keeps j line (Block.Nibble b) p o
-    carryOut-keeps j line Block.Idle p o = ordinary-keeps j line Block.Idle p o
+    carryOut-keeps j line (Block.Run q t a) p o = as-in-body-keeps j line (Block.Run q t a) p o
+    carryOut-keeps j line (Block.Recall k) p o = as-in-body-keeps j line (Block.Recall k) p o
+    carryOut-keeps j line (Block.Nibble b) p o = as-in-body-keeps j line (Block.Nibble b) p o
+    carryOut-keeps j line Block.Idle p o = as-in-body-keeps j line Block.Idle p o
     carryOut-keeps j line (Block.Open k) p o = openBody-keeps j k line p o
     carryOut-keeps j line (Block.Close k) p o = keeps-refused 9 line
-    carryOut-keeps j line (Block.Call k) p o = ordinary-keeps j line (Block.Call k) p o
+    carryOut-keeps j line (Block.Call k) p o = as-in-body-keeps j line (Block.Call k) p o
     carryOut-keeps j line (Block.Copy c) p o = keeps-leaving (withProgress p) (copyPart j text (p .setup) line c (p .progress)) (λ g. o)
 
     -- ---- Lines

@@ -61,9 +61,9 @@ inPlace Ended b = false
 -- ---- Blocks outside bodies
 
 -- a block that may stand in a body as well; four calls may be opened
-abbrev pub ordinary : Judging → List ℕ → ℕ → Block → Program → Out (Made Program)
+abbrev pub asInBody : Judging → List ℕ → ℕ → Block → Program → Out (Made Program)
 unfolding carry call
-ordinary j text line b p =
+asInBody j text line b p =
     leaving (withProgress p)
     (carry j (call j text (p .setup .macros) (ordinaryFrame (p .setup)) mostCalls) (ordinaryFrame (p .setup)) line b (p .progress))
 
@@ -73,19 +73,19 @@ unfoldable pub carryOut : Judging → List ℕ → ℕ → ℕ → List (List �
 unfolding carry call setMachine setOrdinary openBody copyPart
 carryOut j text next line ls (Machine q) p = setMachine line q p
 carryOut j text next line ls End p = still (atStage Ended p)
-carryOut j text next line ls Read p = ordinary j text line Read p
-carryOut j text next line ls (Punch a t) p = ordinary j text line (Punch a t) p
-carryOut j text next line ls (Move a t) p = ordinary j text line (Move a t) p
-carryOut j text next line ls (Origin a) p = ordinary j text line (Origin a) p
+carryOut j text next line ls Read p = asInBody j text line Read p
+carryOut j text next line ls (Punch a t) p = asInBody j text line (Punch a t) p
+carryOut j text next line ls (Move a t) p = asInBody j text line (Move a t) p
+carryOut j text next line ls (Origin a) p = asInBody j text line (Origin a) p
 carryOut j text next line ls (Offset a) p = setOrdinary j line (p .setup .sheet) (offsetBy a (p .setup .offset)) p
 carryOut j text next line ls (Place l) p = setOrdinary j line (LaidOut l) (p .setup .offset) p
-carryOut j text next line ls (Run q t a) p = ordinary j text line (Run q t a) p
-carryOut j text next line ls (Recall k) p = ordinary j text line (Recall k) p
-carryOut j text next line ls (Nibble b) p = ordinary j text line (Nibble b) p
-carryOut j text next line ls Idle p = ordinary j text line Idle p
+carryOut j text next line ls (Run q t a) p = asInBody j text line (Run q t a) p
+carryOut j text next line ls (Recall k) p = asInBody j text line (Recall k) p
+carryOut j text next line ls (Nibble b) p = asInBody j text line (Nibble b) p
+carryOut j text next line ls Idle p = asInBody j text line Idle p
 carryOut j text next line ls (Open k) p = openBody j text k next line ls p
 carryOut j text next line ls (Close k) p = refused 9 line
-carryOut j text next line ls (Call k) p = ordinary j text line (Call k) p
+carryOut j text next line ls (Call k) p = asInBody j text line (Call k) p
 carryOut j text next line ls (Copy c) p = leaving (withProgress p) (copyPart j text (p .setup) line c (p .progress))
 
 -- ---- Lines

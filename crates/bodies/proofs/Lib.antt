@@ -1,5 +1,5 @@
 pub mod OutsideBlocks
-pub mod Rows
+pub mod Stretches
 pub mod Running
 pub mod Tags
 pub mod TextRuns

@@ -30,7 +30,7 @@ use Rattle.aries.specs.declared.state.Progress.{Progress}
 use Rattle.aries.specs.Macros.{begun}
 use Rattle.aries.specs.Moves.{withState, measuring}
 use Rattle.aries.specs.Setup.{withProgress, atStage}
-use Rattle.aries.specs.Program.{isMachine, inPlace, ordinary, carryOut, begunOutside, passOver, runBlockOutside, runLineOutside}
+use Rattle.aries.specs.Program.{isMachine, inPlace, asInBody, carryOut, begunOutside, passOver, runBlockOutside, runLineOutside}
 
 -- the first byte of a line that is not blank
 pub first-byte : (t : List ℕ) (at end : ℕ) → at < end → getD (take (end - at) (drop at t)) 0 0 ≡ getD t at 0
@@ -77,29 +77,29 @@ begun-hits l g m = go (startsWith letterV l)
 -- ---- Blocks by their tags
 
 -- every block that may stand in a body as well
-abbrev pub ordinaries : List ℕ
-ordinaries = 2 ∷ 3 ∷ 4 ∷ 5 ∷ 8 ∷ 9 ∷ 10 ∷ 11 ∷ 14 ∷ []
+abbrev pub asInBodies : List ℕ
+asInBodies = 2 ∷ 3 ∷ 4 ∷ 5 ∷ 8 ∷ 9 ∷ 10 ∷ 11 ∷ 14 ∷ []
 
-pub carry-out-ordinary :
+pub carry-out-as-in-body :
     (j : Judging) (text : List ℕ) (next line : ℕ) (ls : List (List ℕ)) (b : Block) (p : Program)
-    → OneOf ordinaries (tagOf the-type b) → carryOut j text next line ls b p ≡ ordinary j text line b p
+    → OneOf asInBodies (tagOf the-type b) → carryOut j text next line ls b p ≡ asInBody j text line b p
 unfolding carryOut
-carry-out-ordinary j text next line ls (Machine q) p h = absurd (miss ordinaries 0 tt h)
-carry-out-ordinary j text next line ls End p h = absurd (miss ordinaries 1 tt h)
-carry-out-ordinary j text next line ls Read p h = refl
-carry-out-ordinary j text next line ls (Punch a t) p h = refl
-carry-out-ordinary j text next line ls (Move a t) p h = refl
-carry-out-ordinary j text next line ls (Origin a) p h = refl
-carry-out-ordinary j text next line ls (Offset a) p h = absurd (miss ordinaries 6 tt h)
-carry-out-ordinary j text next line ls (Place l) p h = absurd (miss ordinaries 7 tt h)
-carry-out-ordinary j text next line ls (Run q t a) p h = refl
-carry-out-ordinary j text next line ls (Recall k) p h = refl
-carry-out-ordinary j text next line ls (Nibble b) p h = refl
-carry-out-ordinary j text next line ls Idle p h = refl
-carry-out-ordinary j text next line ls (Open k) p h = absurd (miss ordinaries 12 tt h)
-carry-out-ordinary j text next line ls (Close k) p h = absurd (miss ordinaries 13 tt h)
-carry-out-ordinary j text next line ls (Call k) p h = refl
-carry-out-ordinary j text next line ls (Copy c) p h = absurd (miss ordinaries 15 tt h)
+carry-out-as-in-body j text next line ls (Machine q) p h = absurd (miss asInBodies 0 tt h)
+carry-out-as-in-body j text next line ls End p h = absurd (miss asInBodies 1 tt h)
+carry-out-as-in-body j text next line ls Read p h = refl
+carry-out-as-in-body j text next line ls (Punch a t) p h = refl
+carry-out-as-in-body j text next line ls (Move a t) p h = refl
+carry-out-as-in-body j text next line ls (Origin a) p h = refl
+carry-out-as-in-body j text next line ls (Offset a) p h = absurd (miss asInBodies 6 tt h)
+carry-out-as-in-body j text next line ls (Place l) p h = absurd (miss asInBodies 7 tt h)
+carry-out-as-in-body j text next line ls (Run q t a) p h = refl
+carry-out-as-in-body j text next line ls (Recall k) p h = refl
+carry-out-as-in-body j text next line ls (Nibble b) p h = refl
+carry-out-as-in-body j text next line ls Idle p h = refl
+carry-out-as-in-body j text next line ls (Open k) p h = absurd (miss asInBodies 12 tt h)
+carry-out-as-in-body j text next line ls (Close k) p h = absurd (miss asInBodies 13 tt h)
+carry-out-as-in-body j text next line ls (Call k) p h = refl
+carry-out-as-in-body j text next line ls (Copy c) p h = absurd (miss asInBodies 15 tt h)
 
 -- every block but G92
 abbrev pub notMachines : List ℕ

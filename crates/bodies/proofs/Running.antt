@@ -33,7 +33,7 @@ use Rattle.text.specs.Lines.{lineLength, blanks}
 use Rattle.text.proofs.Lines.{line-goes-on, line-short, feed-after, lines-at, lines-past, lines-blanks, blanks-go-on, blanks-past}
 use Rattle.bodies.specs.declared.Opening.{Opening}
 use Rattle.bodies.specs.Opening.{Opens}
-use Rattle.bodies.specs.Ordinary.{noCalls}
+use Rattle.bodies.specs.Stretches.{noCalls}
 
 -- ---- The ways through a block
 
@@ -72,8 +72,8 @@ carry-alike j c d f line (Copy k) g h = refl
 
 -- a block that calls nothing, and one that calls a macro
 module _ (j : Judging) (c : Calls) (f : Frame) (line : ℕ) (b : Block) (g : Progress) where
-  pub carry-ordinary : ((n : ℕ) → b ≡ Call n → ⊥) → carry j c f line b g ≡ carry j noCalls f line b g
-  carry-ordinary h = carry-alike j c noCalls f line b g h
+  pub carry-direct : ((n : ℕ) → b ≡ Call n → ⊥) → carry j c f line b g ≡ carry j noCalls f line b g
+  carry-direct h = carry-alike j c noCalls f line b g h
 
   pub carry-call : (n : ℕ) → b ≡ Call n → carry j c f line b g ≡ c n line g
   unfolding carry

@@ -14,8 +14,8 @@ use Rattle.aries.specs.declared.state.Progress.{Progress}
 use Rattle.aries.specs.Outcome.{Out, done, refused}
 use Rattle.aries.specs.Judging.{Judging}
 use Rattle.aries.specs.Macros.{carry}
-use Rattle.decode.specs.Ordinary.{isOrdinary}
-use Rattle.bodies.specs.Ordinary.{noCalls}
+use Rattle.decode.specs.Direct.{isDirect}
+use Rattle.bodies.specs.Stretches.{noCalls}
 
 clash : true ≡ false → ⊥
 clash h = let z : _≡_ {A = ℕ} 0 1 = cc in omega arith
@@ -50,27 +50,27 @@ notCalls = 0 ∷ 1 ∷ 2 ∷ 3 ∷ 4 ∷ 5 ∷ 6 ∷ 7 ∷ 8 ∷ 9 ∷ 10 ∷ 11
 pub not-call : (b : Block) → OneOf notCalls (tagOf the-type b) → (n : ℕ) → b ≡ Call n → ⊥
 not-call b h n e = miss notCalls 14 tt (subst (λ (x : Block). OneOf notCalls (tagOf the-type x)) e h)
 
--- those that are out of place are all that are not ordinary
-pub not-ordinary : (b : Block) → OneOf outOfPlace (tagOf the-type b) → isOrdinary b ≡ false
-not-ordinary (Machine p) h = refl
-not-ordinary End h = refl
-not-ordinary Read h = absurd (miss outOfPlace 2 tt h)
-not-ordinary (Punch a t) h = absurd (miss outOfPlace 3 tt h)
-not-ordinary (Move a t) h = absurd (miss outOfPlace 4 tt h)
-not-ordinary (Origin a) h = absurd (miss outOfPlace 5 tt h)
-not-ordinary (Offset a) h = refl
-not-ordinary (Place l) h = refl
-not-ordinary (Run p t a) h = absurd (miss outOfPlace 8 tt h)
-not-ordinary (Recall n) h = absurd (miss outOfPlace 9 tt h)
-not-ordinary (Nibble b) h = absurd (miss outOfPlace 10 tt h)
-not-ordinary Idle h = absurd (miss outOfPlace 11 tt h)
-not-ordinary (Open n) h = refl
-not-ordinary (Close n) h = refl
-not-ordinary (Call n) h = refl
-not-ordinary (Copy k) h = refl
+-- those that are out of place are all that are not direct
+pub not-direct : (b : Block) → OneOf outOfPlace (tagOf the-type b) → isDirect b ≡ false
+not-direct (Machine p) h = refl
+not-direct End h = refl
+not-direct Read h = absurd (miss outOfPlace 2 tt h)
+not-direct (Punch a t) h = absurd (miss outOfPlace 3 tt h)
+not-direct (Move a t) h = absurd (miss outOfPlace 4 tt h)
+not-direct (Origin a) h = absurd (miss outOfPlace 5 tt h)
+not-direct (Offset a) h = refl
+not-direct (Place l) h = refl
+not-direct (Run p t a) h = absurd (miss outOfPlace 8 tt h)
+not-direct (Recall n) h = absurd (miss outOfPlace 9 tt h)
+not-direct (Nibble b) h = absurd (miss outOfPlace 10 tt h)
+not-direct Idle h = absurd (miss outOfPlace 11 tt h)
+not-direct (Open n) h = refl
+not-direct (Close n) h = refl
+not-direct (Call n) h = refl
+not-direct (Copy k) h = refl
 
--- a block that is not ordinary is out of place where no call is looked for
-pub carry-apart : (j : Judging) (f : Frame) (line : ℕ) (b : Block) (g : Progress) → isOrdinary b ≡ false → carry j noCalls f line b g ≡ refused 7 line
+-- a block that is not direct is out of place where no call is looked for
+pub carry-apart : (j : Judging) (f : Frame) (line : ℕ) (b : Block) (g : Progress) → isDirect b ≡ false → carry j noCalls f line b g ≡ refused 7 line
 unfolding carry
 carry-apart j f line (Machine p) g h = refl
 carry-apart j f line End g h = refl

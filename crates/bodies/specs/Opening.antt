@@ -5,7 +5,7 @@ use Prim.Native.Nat.{ℕ, _+_}
 use lib.ListN.{drop}
 use Rattle.text.specs.Lines.{blanks}
 use Rattle.bodies.specs.declared.Opening.{Opening}
-use Rattle.bodies.specs.Ordinary.{AtBlock}
+use Rattle.bodies.specs.Stretches.{AtBlock}
 
 -- past the empty lines at its front, which count as lines
 pub record Opens (body : List ℕ) (first : ℕ) (r : Opening) : Type 0 where

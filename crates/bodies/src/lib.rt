@@ -16,11 +16,11 @@ ghost use Rattle.aries.specs.Judging.{lent};
 ghost use Rattle.aries.specs.Macros.{Within, call, carry, runBlock, runLines};
 ghost use Rattle.aries.specs.Runs.{Carried};
 ghost use Rattle.aries.specs.Text.{lines};
-ghost use Rattle.decode.specs.Ordinary.{isOrdinary};
-ghost use Rattle.bodies.specs.Ordinary.{AtBlock, ApartIn};
+ghost use Rattle.decode.specs.Direct.{isDirect};
+ghost use Rattle.bodies.specs.Stretches.{AtBlock, ApartIn};
 ghost use Rattle.bodies.specs.Opening.{Opens};
 
-pub mod ordinary; // blocks that call nothing, one or in a row
+pub mod stretch; // direct blocks, one or many
 
 // The most blocks that are carried out.
 pub const MOST_BLOCKS: u32 = 100_000;
@@ -48,7 +48,7 @@ pub fn first_block(body: &[u8], first: u16) -> Opening
     }
 }
 
-// A block that is not ordinary, decoded and counted, with so many calls left to open: W, or one that is out of place.
+// A block that is not direct, decoded and counted, with so many calls left to open: W, or one that is out of place.
 pub fn run_block(
     depth: u8,
     list: &mut [i32],
@@ -59,7 +59,7 @@ pub fn run_block(
     line: u64,
     progress: Progress,
 ) -> Outcome
-    requires { ⌜ (Within macros (length (now text))) × (isOrdinary block ≡ false) ⌝ }
+    requires { ⌜ (Within macros (length (now text))) × (isDirect block ≡ false) ⌝ }
     ensures { λ r. ⌜ Carried r (now (list .entry)) (now (list .exit)) (progress .hits) (carry (lent (length (now (list .entry)))) (call (lent (length (now (list .entry)))) (now (text .entry)) macros frame depth) frame line block progress) ⌝ }
 {
     let Block::Call(number) = block else {
@@ -86,7 +86,7 @@ pub fn run_block(
     )
 }
 
-// The block of a line, if it is not ordinary: counted, decoded and carried out.
+// The block of a line, if it is not direct: counted, decoded and carried out.
 fn run_line(
     depth: u8,
     list: &mut [i32],
@@ -115,7 +115,7 @@ fn run_line(
     }
 }
 
-// A body from a place on where a block starts, up to the first refusal, with so many calls left to open. Ordinary blocks
+// A body from a place on where a block starts, up to the first refusal, with so many calls left to open. Direct blocks
 // are carried out in a row; any other is looked at by itself, since only a call needs the stored bodies.
 pub fn run_body(
     depth: u8,
@@ -135,18 +135,18 @@ pub fn run_body(
     let mut at = from;
     let mut line = first;
     while at < body.len() {
-        let row = ordinary::run_ordinary(list, body, at, line, frame, now);
-        let left = row.progress;
-        let status = row.status;
+        let stretch = stretch::run_stretch(list, body, at, line, frame, now);
+        let left = stretch.progress;
+        let status = stretch.status;
         if let Status::Refused(refusal, place) = status {
             return Outcome::refused(refusal, place, left);
         }
-        let stop = row.at;
+        let stop = stretch.at;
         if stop == body.len() {
             return Outcome::passed(left);
         }
         let end = text::line_end(body, stop);
-        let number = row.line;
+        let number = stretch.line;
         let outcome = run_line(
             depth,
             list,

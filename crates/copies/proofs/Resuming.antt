@@ -1,4 +1,4 @@
--- Laws of a copy in two steps: its first row of ordinary blocks, and what is left of it.
+-- Laws of a copy in two steps: its first stretch of direct blocks, and what is left of it.
 use mathlib.Core.Path.{_≡_, refl, sym, subst}
 use mathlib.Core.List.{List}
 use Prim.Native.Nat.{ℕ, _≤_}
@@ -15,23 +15,23 @@ use Rattle.aries.specs.Judging.{Judging}
 use Rattle.aries.specs.Macros.{Calls, runLines}
 use Rattle.aries.specs.Runs.{Ran}
 use Rattle.aries.proofs.Runs.{ran-as, ran-then, ran-stop, ran-still, ran-refused}
-use Rattle.bodies.specs.declared.ordinary.Stretch.{Stretch}
-use Rattle.bodies.specs.Ordinary.{Stretches}
+use Rattle.bodies.specs.declared.stretch.Stretch.{Stretch}
+use Rattle.bodies.specs.Stretches.{Stretches}
 use Rattle.bodies.proofs.Running.{lines-end}
 use Rattle.copies.specs.Copying.{resume}
 use Rattle.copies.proofs.CopyAll.{hits}
 
 module _ (j : Judging) (c : Calls) (f : Frame) (t : List ℕ) where
-  -- what is left of the lines behind a row
+  -- what is left of the lines behind a stretch
   abbrev rest : Stretch → Out (Made Progress)
   rest r = runLines j c f (r .line) (lines (drop (r .at) t)) (r .progress)
 
-  -- a row, and then the rest, are the whole
+  -- a stretch, and then the rest, are the whole
   pub resumed :
       (from first : ℕ) (g : Progress) (r : Stretch) (before mid after : List ℤ) (status : Status) (left : Progress) → Stretches j f t from first g r before mid
       → Ran hits status left mid after (r .progress .hits) (resume (r .status) (rest r)) → Ran hits status left before after (g .hits) (runLines j c f first (lines (drop from t)) g)
   resumed from first g r before mid after status left s h =
-      ran-as hits status left before after (g .hits) (s .row .in-body c) (go (r .status) refl)
+      ran-as hits status left before after (g .hits) (s .continues .in-body c) (go (r .status) refl)
     where
       told : (x : Status) → r .status ≡ x → Ran hits x (r .progress) before mid (g .hits) (s .made)
       told x e = subst (λ (y : Status). Ran hits y (r .progress) before mid (g .hits) (s .made)) e (s .ran)
@@ -43,7 +43,7 @@ module _ (j : Judging) (c : Calls) (f : Frame) (t : List ℕ) where
           subst (λ (y : Status). Ran hits y left before after (g .hits) (andThen (s .made) (runLines j c f (r .line) (lines (drop (r .at) t))))) (sym (h' .same-status))
           (ran-stop hits (s .made) _ (r .progress) left before mid after (g .hits) (g .hits) number line (told (Refused number line) e))
 
-  -- a row that goes on to the end leaves nothing
+  -- a stretch that goes on to the end leaves nothing
   pub ended-resumes : (r : Stretch) (list : List ℤ) → length t ≤ r .at → Ran hits (r .status) (r .progress) list list (r .progress .hits) (resume (r .status) (rest r))
   ended-resumes r list h = go (r .status)
     where

@@ -15,7 +15,7 @@ use Rattle.aries.specs.Macros.{call, mostCalls, runLines, runBody}
 use Rattle.aries.specs.Text.{lines}
 use Rattle.aries.specs.Setup.{ordinaryFrame}
 use Rattle.bodies.specs.declared.Opening.{Opening}
-use Rattle.bodies.specs.declared.ordinary.Stretch.{Stretch}
+use Rattle.bodies.specs.declared.stretch.Stretch.{Stretch}
 use Rattle.aries.specs.declared.state.Frame.{Frame}
 use Rattle.aries.specs.declared.state.Status.{Status}
 use Rattle.aries.specs.declared.state.Status.the-variants.{Passed, Refused}
@@ -37,7 +37,7 @@ bodyPart j text m first body f g = runBody j text m (mostCalls - 1) f first body
 abbrev pub openedPart : Judging → List ℕ → Macros → Opening → List ℕ → Part
 openedPart j text m o body f g = runLines j (call j text m f (mostCalls - 1)) f (o .line) (lines (drop (o .at) body)) g
 
--- what is left of a part behind a row of ordinary blocks
+-- what is left of a part behind a stretch of direct blocks
 abbrev pub restOf : Judging → List ℕ → Macros → Frame → List ℕ → Stretch → Out (Made Progress)
 restOf j text m f body r = runLines j (call j text m f (mostCalls - 1)) f (r .line) (lines (drop (r .at) body)) (r .progress)
 

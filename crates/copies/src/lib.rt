@@ -13,8 +13,8 @@ use aries::state::Progress;
 use aries::state::State;
 use aries::state::Status;
 use bodies::Opening;
-use bodies::ordinary::Stretch;
-use bodies::ordinary::run_ordinary;
+use bodies::stretch::Stretch;
+use bodies::stretch::run_stretch;
 use lanes::Cursor;
 ghost use mathlib.Core.Path.{_≡_};
 ghost use lib.ListN.{length};
@@ -22,7 +22,7 @@ ghost use Rattle.aries.specs.Judging.{lent};
 ghost use Rattle.aries.specs.Layouts.{copyStart, copyPart};
 ghost use Rattle.aries.specs.Macros.{Within};
 ghost use Rattle.aries.specs.Runs.{Carried};
-ghost use Rattle.bodies.specs.Ordinary.{AtBlock};
+ghost use Rattle.bodies.specs.Stretches.{AtBlock};
 ghost use Rattle.copies.specs.Copying.{openedPart, allCopies, resume, restOf};
 
 pub mod blank; // copies of a part without a block
@@ -35,29 +35,29 @@ pub fn copy_start(found: State, place: Point) -> State
     found.dropping().moved_to(place)
 }
 
-// What a row of ordinary blocks leaves that goes on to the end of the body.
-fn ended(row: Stretch) -> Outcome
-    ensures { λ r. ⌜ r ≡ record { status = row .status; progress = row .progress } ⌝ }
+// What a stretch of direct blocks leaves that goes on to the end of the body.
+fn ended(stretch: Stretch) -> Outcome
+    ensures { λ r. ⌜ r ≡ record { status = stretch .status; progress = stretch .progress } ⌝ }
 {
-    let status = row.status;
-    let progress = row.progress;
+    let status = stretch.status;
+    let progress = stretch.progress;
     Outcome { status, progress }
 }
 
-// The rest of a copy behind its first row of ordinary blocks, unless that was refused.
+// The rest of a copy behind its first stretch of direct blocks, unless that was refused.
 fn finish(
     list: &mut [i32],
     text: &[u8],
     body: &[u8],
     macros: Macros,
     frame: Frame,
-    row: Stretch,
+    stretch: Stretch,
 ) -> Outcome
-    requires { ⌜ (Within macros (length (now text))) × (AtBlock (now body) (row .at) (row .line)) ⌝ }
-    ensures { λ r. ⌜ Carried r (now (list .entry)) (now (list .exit)) (row .progress .hits) (resume (row .status) (restOf (lent (length (now (list .entry)))) (now (text .entry)) macros frame (now (body .entry)) row)) ⌝ }
+    requires { ⌜ (Within macros (length (now text))) × (AtBlock (now body) (stretch .at) (stretch .line)) ⌝ }
+    ensures { λ r. ⌜ Carried r (now (list .entry)) (now (list .exit)) (stretch .progress .hits) (resume (stretch .status) (restOf (lent (length (now (list .entry)))) (now (text .entry)) macros frame (now (body .entry)) stretch)) ⌝ }
 {
-    let status = row.status;
-    let progress = row.progress;
+    let status = stretch.status;
+    let progress = stretch.progress;
     if let Status::Refused(number, place) = status {
         return Outcome::refused(number, place, progress);
     }
@@ -66,8 +66,8 @@ fn finish(
         list,
         text,
         body,
-        row.at,
-        row.line,
+        stretch.at,
+        stretch.line,
         macros,
         frame,
         progress,
@@ -110,12 +110,12 @@ fn copy_body(
             origin: point,
         };
         let begun = now.with_state(copy_start(found, point));
-        let row = run_ordinary(list, body, opening.at, opening.line, frame, begun);
-        let stop = row.at;
+        let stretch = run_stretch(list, body, opening.at, opening.line, frame, begun);
+        let stop = stretch.at;
         let outcome = if stop < body.len() {
-            finish(list, text, body, macros, frame, row)
+            finish(list, text, body, macros, frame, stretch)
         } else {
-            ended(row)
+            ended(stretch)
         };
         let status = outcome.status;
         if let Status::Refused(_, _) = status {

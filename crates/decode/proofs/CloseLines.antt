@@ -1,4 +1,4 @@
--- A line that starts with V asks for no ordinary block: its V is one word more than the letters of any other kind of block.
+-- A line that starts with V asks for no direct block: its V is one word more than the letters of any other kind of block.
 -- Assumes nothing.
 use mathlib.Core.Path.{_≡_, refl, sym, ap, _∙_, subst}
 use mathlib.Core.Bool.{Bool, true, false, not}
@@ -24,7 +24,7 @@ use Rattle.aries.specs.Words.{noWord, noWords, has, isReadingCode, withReading,
 use Rattle.aries.specs.Blocks.{Form, formOf, present, oneOfThem, besideFits, kindFits, kindOf, isListed, isRanged, blockOf, decode}
 use Rattle.aries.specs.Bodies.{startsWith}
 use Rattle.aries.proofs.Outcomes.{refused≢done, done-injective, need-accepted}
-use Rattle.decode.specs.Ordinary.{isOrdinary}
+use Rattle.decode.specs.Direct.{isDirect}
 
 -- two tests that hold together hold each
 parts : (a b : Bool) → both a b ≡ true → (a ≡ true) × (b ≡ true)
@@ -294,15 +294,15 @@ decoded bs line i e =
     let b : i .block ≡ blockOf (w .0) (kindOf (w .0)) = ap (λ (j : Instruction). j .block) (sym (done-injective _ i (r .1))) in
     (w .0, given-accepted (words bs) 4 line (w .0) (w .1), l .0, b)
 
--- the block of a V line is not ordinary
-close-block : (w : Words) → isOrdinary (blockOf w LetterV) ≡ false
+-- the block of a V line is not direct
+close-block : (w : Words) → isDirect (blockOf w LetterV) ≡ false
 unfolding blockOf
 close-block w = refl
 
--- a line that starts with V, if it decodes, asks for no ordinary block
+-- a line that starts with V, if it decodes, asks for no direct block
 pub close-line :
     (bs : List ℕ) (line : ℕ) (i : Instruction) → startsWith letterV bs ≡ true → decode bs line ≡ done i
-    → isOrdinary (i .block) ≡ false
+    → isDirect (i .block) ≡ false
 close-line bs line i s e =
     let d = decoded bs line i e in
     let w = d .0 in

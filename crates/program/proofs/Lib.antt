@@ -1,4 +1,4 @@
 pub mod Advances
-pub mod Rows
+pub mod Direct
 pub mod SettingUp
 pub mod StoredBodies

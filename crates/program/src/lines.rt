@@ -7,7 +7,7 @@ use aries::setup::Program;
 use aries::setup::Stage;
 use aries::state::Progress;
 use aries::state::Status;
-use bodies::ordinary::run_ordinary;
+use bodies::stretch::run_stretch;
 ghost use mathlib.Core.Path.{_≡_};
 ghost use Prim.Native.Nat.{ℕ, _≤_, _<_, _+_, _-_};
 ghost use lib.ListN.{length, drop, take, getD};
@@ -23,8 +23,8 @@ ghost use Rattle.aries.specs.Setup.{freshProgram};
 ghost use Rattle.aries.specs.Test.{either, pick};
 ghost use Rattle.aries.specs.Text.{lines};
 ghost use Rattle.aries.specs.declared.setup.Stage.the-variants.{Running};
-ghost use Rattle.bodies.specs.Ordinary.{AtBlock, ApartIn};
-ghost use Rattle.program.specs.Rows.{Reaches};
+ghost use Rattle.bodies.specs.Stretches.{AtBlock, ApartIn};
+ghost use Rattle.program.specs.Direct.{Reaches};
 
 const LETTER_V: u8 = b'V';
 
@@ -116,8 +116,8 @@ struct Reached {
     line: u64,
 }
 
-// The ordinary blocks that stand in a row at a place of the text, while the program runs.
-fn run_row(list: &mut [i32], text: &[u8], at: usize, line: u64, program: Program) -> Reached
+// The direct blocks that follow one another from a place of the text on, while the program runs.
+fn run_direct(list: &mut [i32], text: &[u8], at: usize, line: u64, program: Program) -> Reached
     requires { ⌜ AtBlock (now text) at line ⌝ }
     ensures { λ r. ⌜ Reaches (lent (length (now (list .entry)))) (now (text .entry)) at line program r (now (list .entry)) (now (list .exit)) ⌝ }
 {
@@ -132,14 +132,14 @@ fn run_row(list: &mut [i32], text: &[u8], at: usize, line: u64, program: Program
     };
     let setup = program.setup;
     let progress = program.progress;
-    let row = run_ordinary(list, text, at, line, setup.frame(), progress);
-    let status = row.status;
-    let left = row.progress;
+    let stretch = run_stretch(list, text, at, line, setup.frame(), progress);
+    let status = stretch.status;
+    let left = stretch.progress;
     Reached {
         status,
         program: program.with_progress(left),
-        at: row.at,
-        line: row.line,
+        at: stretch.at,
+        line: stretch.line,
     }
 }
 
@@ -152,18 +152,18 @@ pub fn run_text(list: &mut [i32], text: &[u8]) -> Advance
     let mut at = text::next_block(text, 0);
     let mut line = 1 + (at as u64);
     while at < text.len() {
-        let row = run_row(list, text, at, line, now);
-        let left = row.program;
-        let status = row.status;
+        let reached = run_direct(list, text, at, line, now);
+        let left = reached.program;
+        let status = reached.status;
         if let Status::Refused(refusal, place) = status {
             return Advance::refused(refusal, place, left);
         }
-        let stop = row.at;
+        let stop = reached.at;
         if stop == text.len() {
             return Advance::passed(left);
         }
         let end = text::line_end(text, stop);
-        let number = row.line;
+        let number = reached.line;
         let advance = run_line(list, text, stop, end, number, left);
         let ended = advance.status;
         if let Status::Refused(_, _) = ended {

@@ -18,7 +18,7 @@ ghost use Rattle.aries.specs.Program.{isMachine, inPlace, carryOut};
 ghost use Rattle.aries.specs.Runs.{Advanced};
 ghost use Rattle.aries.specs.Setup.{withProgress};
 ghost use Rattle.aries.specs.Text.{lines};
-ghost use Rattle.decode.specs.Ordinary.{isOrdinary};
+ghost use Rattle.decode.specs.Direct.{isDirect};
 
 // Whether a block is G92.
 fn is_machine(block: Block) -> bool
@@ -55,7 +55,7 @@ fn advanced(program: Program, outcome: Outcome) -> Advance
     }
 }
 
-// A block outside bodies that is not ordinary, decoded, counted and found in its place. The next line starts at a place.
+// A block outside bodies that is not direct, decoded, counted and found in its place. The next line starts at a place.
 pub fn carry_out(
     list: &mut [i32],
     text: &[u8],
@@ -64,7 +64,7 @@ pub fn carry_out(
     block: Block,
     program: Program,
 ) -> Advance
-    requires { ⌜ (Within (program .setup .macros) (length (now text))) × ((length (now text) ≤ 60000) × ((line < 65535) × (isOrdinary block ≡ false))) ⌝ }
+    requires { ⌜ (Within (program .setup .macros) (length (now text))) × ((length (now text) ≤ 60000) × ((line < 65535) × (isDirect block ≡ false))) ⌝ }
     ensures { λ r. ⌜ Advanced r (now (list .entry)) (now (list .exit)) (program .progress .hits) (carryOut (lent (length (now (list .entry)))) (now (text .entry)) next line (lines (drop next (now (text .entry)))) block program) ⌝ }
 {
     let setup = program.setup;

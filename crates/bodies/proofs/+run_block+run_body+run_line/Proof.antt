@@ -20,10 +20,10 @@ use Rattle.aries.proofs.Carried.{carried-refused}
 use Rattle.text.specs.Lines.{blanks, lineLength}
 use Rattle.text.proofs.Lines.{line-goes-on, next-stop}
 use Rattle.blocks.proofs.Decoded.{decoded-refused, decoded-done}
-use Rattle.bodies.specs.Ordinary.{AtBlock, Apart, Stretches}
+use Rattle.bodies.specs.Stretches.{AtBlock, Apart, Stretches}
 use Rattle.bodies.proofs.Tags.{not-call, carry-apart}
-use Rattle.bodies.proofs.Rows.{row-passed, row-stopped, apart-line}
-use Rattle.bodies.proofs.Running.{block-spent, block-refused, block-carried, carry-ordinary, carry-call, body-within, call-missing, call-deep, call-body, lines-end, hits, body-opened, turn-refused, turn-passed}
+use Rattle.bodies.proofs.Stretches.{stretch-passed, stretch-stopped, apart-line}
+use Rattle.bodies.proofs.Running.{block-spent, block-refused, block-carried, carry-direct, carry-call, body-within, call-missing, call-deep, call-body, lines-end, hits, body-opened, turn-refused, turn-passed}
 use borrow.Fn.Kinds.{In}
 use borrow.Fn.PlainCycle.{Measures, is, falls, and}
 use Rattle.bodies.proofs.run_block.Reads as run-block
@@ -40,7 +40,7 @@ use Rattle.aries.proofs.state.Outcome.passed.Reads as passed-reads
 use Rattle.aries.proofs.state.Outcome.refused.Reads as refused-reads
 use Rattle.aries.proofs.state.Progress.begun.Reads as begun-reads
 use Rattle.bodies.proofs.first_block.Reads as first-block-reads
-use Rattle.bodies.proofs.ordinary.run_ordinary.Reads as run-ordinary-reads
+use Rattle.bodies.proofs.stretch.run_stretch.Reads as run-stretch-reads
 use Rattle.decode.proofs.decode.Reads as decode-reads
 use Rattle.text.proofs.line_end.Reads as line-end-reads
 use Rattle.text.proofs.next_block.Reads as next-block-reads
@@ -92,8 +92,8 @@ run-block-claims t = (
 
 abbrev run-body-claims : ℕ → run-body-lts.Claims
 run-body-claims t = (
-  run-ordinary-reads.Asked,
-  run-ordinary-reads.Learnt,
+  run-stretch-reads.Asked,
+  run-stretch-reads.Learnt,
   refused-reads.Asked,
   refused-reads.Learnt,
   passed-reads.Asked,
@@ -129,7 +129,7 @@ run-block-returns t c =
     let a = c .before .before .before .args in
     let l = a .list .now in
     let j = length l in
-    let e = carry-ordinary (lent j) (call (lent j) (a .text .now) (a .macros) (a .frame) (a .depth)) (a .frame) (a .line) (a .block) (a .progress) (not-call (a .block) (c .before .match .keys2)) in
+    let e = carry-direct (lent j) (call (lent j) (a .text .now) (a .macros) (a .frame) (a .depth)) (a .frame) (a .line) (a .block) (a .progress) (not-call (a .block) (c .before .match .keys2)) in
     rw (e ∙ carry-apart (lent j) (a .frame) (a .line) (a .block) (a .progress) (c .before .before .before .pre .1 .1))
     (carried-refused (c .refused .result) (a .progress) l l (a .progress .hits) 7 (a .line) _ (c .refused .ensures) refl)
 
@@ -246,33 +246,33 @@ run-body-loop-holds t c =
     let l = a .list .now in
     (c .before .before .pre .1 .1, refl, leads-start hits l (a .progress .hits) _ refl)
 
-run-body-run-ordinary-requires : (t : ℕ) → run-body-lts.Need-run-ordinary-requires (run-body-claims t) (run-body-at t) run-body.Post run-body-Inv-loop run-body-μ-loop
-run-body-run-ordinary-requires t c κs = c .before .before .loop .inv .0
+run-body-run-stretch-requires : (t : ℕ) → run-body-lts.Need-run-stretch-requires (run-body-claims t) (run-body-at t) run-body.Post run-body-Inv-loop run-body-μ-loop
+run-body-run-stretch-requires t c κs = c .before .before .loop .inv .0
 
 run-body-enum-known-status : (t : ℕ) → run-body-lts.Need-enum-known-status (run-body-claims t) (run-body-at t) run-body.Post run-body-Inv-loop run-body-μ-loop
 run-body-enum-known-status t c = search needs
 
--- the row of ordinary blocks, as the definitions have it
-row-made :
-    (t : ℕ) (c : run-body-lts.After-run-ordinary (run-body-claims t) (run-body-at t) run-body.Post run-body-Inv-loop run-body-μ-loop)
-    → Stretches (lent (length (c .before .before .before .before .before .before .args .list .now))) (c .before .before .before .before .before .before .args .frame) (c .before .before .before .before .before .before .args .body .now) (c .before .before .before .loop .at) (c .before .before .before .loop .line) (c .before .before .before .loop .now) (c .run-ordinary .result) (c .before .before .before .loop .list) (c .run-ordinary .last .0)
-row-made t c = rw (c .before .before .before .loop .inv .1) at (c .run-ordinary .ensures)
+-- the stretch of direct blocks, as the definitions have it
+stretch-made :
+    (t : ℕ) (c : run-body-lts.After-run-stretch (run-body-claims t) (run-body-at t) run-body.Post run-body-Inv-loop run-body-μ-loop)
+    → Stretches (lent (length (c .before .before .before .before .before .before .args .list .now))) (c .before .before .before .before .before .before .args .frame) (c .before .before .before .before .before .before .args .body .now) (c .before .before .before .loop .at) (c .before .before .before .loop .line) (c .before .before .before .loop .now) (c .run-stretch .result) (c .before .before .before .loop .list) (c .run-stretch .last .0)
+stretch-made t c = rw (c .before .before .before .loop .inv .1) at (c .run-stretch .ensures)
 
 run-body-refused-requires : (t : ℕ) → run-body-lts.Need-refused-requires (run-body-claims t) (run-body-at t) run-body.Post run-body-Inv-loop run-body-μ-loop
 run-body-refused-requires t c κs = search needs
 
 run-body-same-length : (t : ℕ) → run-body-lts.Need-same-length (run-body-claims t) (run-body-at t) run-body.Post run-body-Inv-loop run-body-μ-loop
-run-body-same-length t c = c .before .before .before .before .before .before .run-ordinary .kept .0 ∙ c .before .before .before .before .before .before .before .before .before .loop .inv .1
+run-body-same-length t c = c .before .before .before .before .before .before .run-stretch .kept .0 ∙ c .before .before .before .before .before .before .before .before .before .loop .inv .1
 
 run-body-returns : (t : ℕ) → run-body-lts.Need-returns (run-body-claims t) (run-body-at t) run-body.Post run-body-Inv-loop run-body-μ-loop
 run-body-returns t c =
     let a = c .before .before .before .before .before .before .before .before .before .before .before .before .args in
     let p = c .before .before .before .before .before .before .before .before .before .loop in
-    let r = c .before .before .before .before .before .before .run-ordinary in
+    let r = c .before .before .before .before .before .before .run-stretch in
     let n = length (a .list .now) in
-    let m = row-made t (c .before .before .before .before .before .before) in
+    let m = stretch-made t (c .before .before .before .before .before .before) in
     let x = c .before .before .status .given in
-    rw (c .refused .ensures) (row-stopped hits (m .made) _ _ _ (r .result .status) (r .result .progress) (p .list) (r .last .0) (a .list .now) (p .now .hits) (a .progress .hits) (m .row .in-body (call (lent n) (a .text .now) (a .macros) (a .frame) (a .depth))) (m .ran) (p .inv .2) (x .0 .0) (x .0 .1 .0) (x .1))
+    rw (c .refused .ensures) (stretch-stopped hits (m .made) _ _ _ (r .result .status) (r .result .progress) (p .list) (r .last .0) (a .list .now) (p .now .hits) (a .progress .hits) (m .continues .in-body (call (lent n) (a .text .now) (a .macros) (a .frame) (a .depth))) (m .ran) (p .inv .2) (x .0 .0) (x .0 .1 .0) (x .1))
 
 run-body-enum-told : (t : ℕ) → run-body-lts.Need-enum-told (run-body-claims t) (run-body-at t) run-body.Post run-body-Inv-loop run-body-μ-loop
 run-body-enum-told t c = search needs
@@ -281,22 +281,22 @@ run-body-passed-requires : (t : ℕ) → run-body-lts.Need-passed-requires (run-
 run-body-passed-requires t c κs = search needs
 
 run-body-same-length-2 : (t : ℕ) → run-body-lts.Need-same-length-2 (run-body-claims t) (run-body-at t) run-body.Post run-body-Inv-loop run-body-μ-loop
-run-body-same-length-2 t c = c .before .before .before .before .before .before .run-ordinary .kept .0 ∙ c .before .before .before .before .before .before .before .before .before .loop .inv .1
+run-body-same-length-2 t c = c .before .before .before .before .before .before .run-stretch .kept .0 ∙ c .before .before .before .before .before .before .before .before .before .loop .inv .1
 
 run-body-returns-2 : (t : ℕ) → run-body-lts.Need-returns-2 (run-body-claims t) (run-body-at t) run-body.Post run-body-Inv-loop run-body-μ-loop
 run-body-returns-2 t c =
     let a = c .before .before .before .before .before .before .before .before .before .before .before .before .args in
     let p = c .before .before .before .before .before .before .before .before .before .loop in
-    let r = c .before .before .before .before .before .before .run-ordinary in
+    let r = c .before .before .before .before .before .before .run-stretch in
     let n = length (a .list .now) in
-    let m = row-made t (c .before .before .before .before .before .before) in
-    let d = row-passed hits (m .made) _ _ _ (r .result .status) (r .result .progress) (p .list) (r .last .0) (a .list .now) (p .now .hits) (a .progress .hits) (m .row .in-body (call (lent n) (a .text .now) (a .macros) (a .frame) (a .depth))) (m .ran) (p .inv .2) (c .before .before .enum-told .given .1) in
+    let m = stretch-made t (c .before .before .before .before .before .before) in
+    let d = stretch-passed hits (m .made) _ _ _ (r .result .status) (r .result .progress) (p .list) (r .last .0) (a .list .now) (p .now .hits) (a .progress .hits) (m .continues .in-body (call (lent n) (a .text .now) (a .macros) (a .frame) (a .depth))) (m .ran) (p .inv .2) (c .before .before .enum-told .given .1) in
     let e : r .result .at ≡ length (a .body .now) = c .before .if1 .taken in
     let z = lines-end (lent n) (call (lent n) (a .text .now) (a .macros) (a .frame) (a .depth)) (a .frame) (a .body .now) (r .result .at) (r .result .line) (r .result .progress) (omega (arith, e)) in
     rw (c .passed .ensures) (leads-end hits (a .list .now) (a .progress .hits) _ (r .result .progress) (r .last .0) (leads-as hits (a .list .now) (a .progress .hits) _ (r .last .0) (r .result .progress .hits) z d))
 
 run-body-line-end-requires : (t : ℕ) → run-body-lts.Need-line-end-requires (run-body-claims t) (run-body-at t) run-body.Post run-body-Inv-loop run-body-μ-loop
-run-body-line-end-requires t c κs = c .before .before .before .before .before .run-ordinary .ensures .stops .inside
+run-body-line-end-requires t c κs = c .before .before .before .before .before .run-stretch .ensures .stops .inside
 
 run-body-sub-run-line : (t : ℕ) → run-body-lts.Need-sub-run-line (run-body-claims t) (run-body-at t) run-body.Post run-body-Inv-loop run-body-μ-loop
 run-body-sub-run-line t c = search needs
@@ -310,52 +310,52 @@ run-body-part-run-line-end t c = search needs
 run-body-run-line-requires : (t : ℕ) → run-body-lts.Need-run-line-requires (run-body-claims t) (run-body-at t) run-body.Post run-body-Inv-loop run-body-μ-loop
 run-body-run-line-requires t c κs =
     let a = c .before .before .before .before .before .before .before .before .before .before .before .before .before .before in
-    let r = c .before .before .before .before .before .before .before .before .run-ordinary in
+    let r = c .before .before .before .before .before .before .before .before .run-stretch in
     let i : r .result .at < length (a .args .body .now) = omega (arith, r .ensures .stops .inside, c .before .before .before .if1 .left) in
     let e : 3 * a .args .depth + 2 ≡ t = a .pre .0 in
     let f : 3 * a .args .depth + 1 < t = omega arith in
     (f, (a .pre .1 .0, apart-line (a .args .body .now) (r .result .at) (c .before .before .line-end .result) (r .result .line) (r .result .progress .blocks) (c .before .before .line-end .ensures .0) (r .ensures .apart (c .before .before .before .before .enum-told .given .1) i)))
 
--- what the row leaves, and the block behind it
-row-left :
+-- what the stretch leaves, and the block behind it
+stretch-left :
     (t : ℕ) (c : run-body-lts.After-run-line (run-body-claims t) (run-body-at t) run-body.Post run-body-Inv-loop run-body-μ-loop)
-    → Leads hits (c .before .before .before .before .before .before .before .before .before .run-ordinary .last .0) (c .before .before .before .before .before .before .before .before .before .run-ordinary .result .progress .hits)
-    (runLines (lent (length (c .before .before .before .before .before .before .before .before .before .before .before .before .before .before .before .args .list .now))) (call (lent (length (c .before .before .before .before .before .before .before .before .before .before .before .before .before .before .before .args .list .now))) (c .before .before .before .before .before .before .before .before .before .before .before .before .before .before .before .args .text .now) (c .before .before .before .before .before .before .before .before .before .before .before .before .before .before .before .args .macros) (c .before .before .before .before .before .before .before .before .before .before .before .before .before .before .before .args .frame) (c .before .before .before .before .before .before .before .before .before .before .before .before .before .before .before .args .depth)) (c .before .before .before .before .before .before .before .before .before .before .before .before .before .before .before .args .frame) (c .before .before .before .before .before .before .before .before .before .run-ordinary .result .line) (lines (drop (c .before .before .before .before .before .before .before .before .before .run-ordinary .result .at) (c .before .before .before .before .before .before .before .before .before .before .before .before .before .before .before .args .body .now))) (c .before .before .before .before .before .before .before .before .before .run-ordinary .result .progress))
+    → Leads hits (c .before .before .before .before .before .before .before .before .before .run-stretch .last .0) (c .before .before .before .before .before .before .before .before .before .run-stretch .result .progress .hits)
+    (runLines (lent (length (c .before .before .before .before .before .before .before .before .before .before .before .before .before .before .before .args .list .now))) (call (lent (length (c .before .before .before .before .before .before .before .before .before .before .before .before .before .before .before .args .list .now))) (c .before .before .before .before .before .before .before .before .before .before .before .before .before .before .before .args .text .now) (c .before .before .before .before .before .before .before .before .before .before .before .before .before .before .before .args .macros) (c .before .before .before .before .before .before .before .before .before .before .before .before .before .before .before .args .frame) (c .before .before .before .before .before .before .before .before .before .before .before .before .before .before .before .args .depth)) (c .before .before .before .before .before .before .before .before .before .before .before .before .before .before .before .args .frame) (c .before .before .before .before .before .before .before .before .before .run-stretch .result .line) (lines (drop (c .before .before .before .before .before .before .before .before .before .run-stretch .result .at) (c .before .before .before .before .before .before .before .before .before .before .before .before .before .before .before .args .body .now))) (c .before .before .before .before .before .before .before .before .before .run-stretch .result .progress))
     (c .before .before .before .before .before .before .before .before .before .before .before .before .before .before .before .args .list .now) (c .before .before .before .before .before .before .before .before .before .before .before .before .before .before .before .args .progress .hits)
     (runLines (lent (length (c .before .before .before .before .before .before .before .before .before .before .before .before .before .before .before .args .list .now))) (call (lent (length (c .before .before .before .before .before .before .before .before .before .before .before .before .before .before .before .args .list .now))) (c .before .before .before .before .before .before .before .before .before .before .before .before .before .before .before .args .text .now) (c .before .before .before .before .before .before .before .before .before .before .before .before .before .before .before .args .macros) (c .before .before .before .before .before .before .before .before .before .before .before .before .before .before .before .args .frame) (c .before .before .before .before .before .before .before .before .before .before .before .before .before .before .before .args .depth)) (c .before .before .before .before .before .before .before .before .before .before .before .before .before .before .before .args .frame) (c .before .before .before .before .before .before .before .before .before .before .before .before .before .before .before .args .first) (lines (drop (c .before .before .before .before .before .before .before .before .before .before .before .before .before .before .before .args .from) (c .before .before .before .before .before .before .before .before .before .before .before .before .before .before .before .args .body .now))) (c .before .before .before .before .before .before .before .before .before .before .before .before .before .before .before .args .progress))
-row-left t c =
+stretch-left t c =
     let a = c .before .before .before .before .before .before .before .before .before .before .before .before .before .before .before .args in
     let p = c .before .before .before .before .before .before .before .before .before .before .before .before .loop in
-    let r = c .before .before .before .before .before .before .before .before .before .run-ordinary in
+    let r = c .before .before .before .before .before .before .before .before .before .run-stretch in
     let n = length (a .list .now) in
-    let m = row-made t (c .before .before .before .before .before .before .before .before .before) in
-    row-passed hits (m .made) _ _ _ (r .result .status) (r .result .progress) (p .list) (r .last .0) (a .list .now) (p .now .hits) (a .progress .hits) (m .row .in-body (call (lent n) (a .text .now) (a .macros) (a .frame) (a .depth))) (m .ran) (p .inv .2) (c .before .before .before .before .before .enum-told .given .1)
+    let m = stretch-made t (c .before .before .before .before .before .before .before .before .before) in
+    stretch-passed hits (m .made) _ _ _ (r .result .status) (r .result .progress) (p .list) (r .last .0) (a .list .now) (p .now .hits) (a .progress .hits) (m .continues .in-body (call (lent n) (a .text .now) (a .macros) (a .frame) (a .depth))) (m .ran) (p .inv .2) (c .before .before .before .before .before .enum-told .given .1)
 
 line-made :
     (t : ℕ) (c : run-body-lts.After-run-line (run-body-claims t) (run-body-at t) run-body.Post run-body-Inv-loop run-body-μ-loop)
-    → Ran hits (c .run-line .result .status) (c .run-line .result .progress) (c .before .before .before .before .before .before .before .before .before .run-ordinary .last .0) (c .run-line .last .1 .0) (c .before .before .before .before .before .before .before .before .before .run-ordinary .result .progress .hits)
-    (runBlock (lent (length (c .before .before .before .before .before .before .before .before .before .before .before .before .before .before .before .args .list .now))) (call (lent (length (c .before .before .before .before .before .before .before .before .before .before .before .before .before .before .before .args .list .now))) (c .before .before .before .before .before .before .before .before .before .before .before .before .before .before .before .args .text .now) (c .before .before .before .before .before .before .before .before .before .before .before .before .before .before .before .args .macros) (c .before .before .before .before .before .before .before .before .before .before .before .before .before .before .before .args .frame) (c .before .before .before .before .before .before .before .before .before .before .before .before .before .before .before .args .depth)) (c .before .before .before .before .before .before .before .before .before .before .before .before .before .before .before .args .frame) (c .before .before .before .before .before .before .before .before .before .run-ordinary .result .line) (take (c .before .before .before .line-end .result - c .before .before .before .before .before .before .before .before .before .run-ordinary .result .at) (drop (c .before .before .before .before .before .before .before .before .before .run-ordinary .result .at) (c .before .before .before .before .before .before .before .before .before .before .before .before .before .before .before .args .body .now))) (c .before .before .before .before .before .before .before .before .before .run-ordinary .result .progress))
-line-made t c = rw (c .before .before .before .before .before .before .before .before .before .run-ordinary .kept .0 ∙ c .before .before .before .before .before .before .before .before .before .before .before .before .loop .inv .1) at (c .run-line .ensures)
+    → Ran hits (c .run-line .result .status) (c .run-line .result .progress) (c .before .before .before .before .before .before .before .before .before .run-stretch .last .0) (c .run-line .last .1 .0) (c .before .before .before .before .before .before .before .before .before .run-stretch .result .progress .hits)
+    (runBlock (lent (length (c .before .before .before .before .before .before .before .before .before .before .before .before .before .before .before .args .list .now))) (call (lent (length (c .before .before .before .before .before .before .before .before .before .before .before .before .before .before .before .args .list .now))) (c .before .before .before .before .before .before .before .before .before .before .before .before .before .before .before .args .text .now) (c .before .before .before .before .before .before .before .before .before .before .before .before .before .before .before .args .macros) (c .before .before .before .before .before .before .before .before .before .before .before .before .before .before .before .args .frame) (c .before .before .before .before .before .before .before .before .before .before .before .before .before .before .before .args .depth)) (c .before .before .before .before .before .before .before .before .before .before .before .before .before .before .before .args .frame) (c .before .before .before .before .before .before .before .before .before .run-stretch .result .line) (take (c .before .before .before .line-end .result - c .before .before .before .before .before .before .before .before .before .run-stretch .result .at) (drop (c .before .before .before .before .before .before .before .before .before .run-stretch .result .at) (c .before .before .before .before .before .before .before .before .before .before .before .before .before .before .before .args .body .now))) (c .before .before .before .before .before .before .before .before .before .run-stretch .result .progress))
+line-made t c = rw (c .before .before .before .before .before .before .before .before .before .run-stretch .kept .0 ∙ c .before .before .before .before .before .before .before .before .before .before .before .before .loop .inv .1) at (c .run-line .ensures)
 
 stop-inside :
-    (t : ℕ) (c : run-body-lts.After-run-line (run-body-claims t) (run-body-at t) run-body.Post run-body-Inv-loop run-body-μ-loop) → c .before .before .before .before .before .before .before .before .before .run-ordinary .result .at < length (c .before .before .before .before .before .before .before .before .before .before .before .before .before .before .before .args .body .now)
-stop-inside t c = omega (arith, c .before .before .before .before .before .before .before .before .before .run-ordinary .ensures .stops .inside, c .before .before .before .before .if1 .left)
+    (t : ℕ) (c : run-body-lts.After-run-line (run-body-claims t) (run-body-at t) run-body.Post run-body-Inv-loop run-body-μ-loop) → c .before .before .before .before .before .before .before .before .before .run-stretch .result .at < length (c .before .before .before .before .before .before .before .before .before .before .before .before .before .before .before .args .body .now)
+stop-inside t c = omega (arith, c .before .before .before .before .before .before .before .before .before .run-stretch .ensures .stops .inside, c .before .before .before .before .if1 .left)
 
 run-body-enum-told-2 : (t : ℕ) → run-body-lts.Need-enum-told-2 (run-body-claims t) (run-body-at t) run-body.Post run-body-Inv-loop run-body-μ-loop
 run-body-enum-told-2 t c = search needs
 
 run-body-same-length-3 : (t : ℕ) → run-body-lts.Need-same-length-3 (run-body-claims t) (run-body-at t) run-body.Post run-body-Inv-loop run-body-μ-loop
-run-body-same-length-3 t c = c .before .before .before .run-line .kept .1 .0 ∙ c .before .before .before .before .before .before .before .before .before .before .before .before .run-ordinary .kept .0 ∙ c .before .before .before .before .before .before .before .before .before .before .before .before .before .before .before .loop .inv .1
+run-body-same-length-3 t c = c .before .before .before .run-line .kept .1 .0 ∙ c .before .before .before .before .before .before .before .before .before .before .before .before .run-stretch .kept .0 ∙ c .before .before .before .before .before .before .before .before .before .before .before .before .before .before .before .loop .inv .1
 
 run-body-returns-3 : (t : ℕ) → run-body-lts.Need-returns-3 (run-body-claims t) (run-body-at t) run-body.Post run-body-Inv-loop run-body-μ-loop
 run-body-returns-3 t c =
     let a = c .before .before .before .before .before .before .before .before .before .before .before .before .before .before .before .before .before .before .args in
-    let r = c .before .before .before .before .before .before .before .before .before .before .before .before .run-ordinary in
+    let r = c .before .before .before .before .before .before .before .before .before .before .before .before .run-stretch in
     let e = c .before .before .before .before .before .before .line-end in
     let b = c .before .before .before .run-line in
     let n = length (a .list .now) in
     let i = stop-inside t (c .before .before .before) in
-    turn-refused (lent n) (a .text .now) (a .macros) (a .depth) (a .frame) (a .body .now) (r .last .0) (a .list .now) (b .last .1 .0) (a .progress .hits) _ (r .result .at) (e .result) 0 (r .result .line) (r .result .progress) (b .result .progress) (b .result .status) i (r .ensures .stops .block i) (e .ensures .0) (line-made t (c .before .before .before)) (row-left t (c .before .before .before)) _ _ (c .enum-told2 .given .1)
+    turn-refused (lent n) (a .text .now) (a .macros) (a .depth) (a .frame) (a .body .now) (r .last .0) (a .list .now) (b .last .1 .0) (a .progress .hits) _ (r .result .at) (e .result) 0 (r .result .line) (r .result .progress) (b .result .progress) (b .result .status) i (r .ensures .stops .block i) (e .ensures .0) (line-made t (c .before .before .before)) (stretch-left t (c .before .before .before)) _ _ (c .enum-told2 .given .1)
 
 run-body-enum-told-3 : (t : ℕ) → run-body-lts.Need-enum-told-3 (run-body-claims t) (run-body-at t) run-body.Post run-body-Inv-loop run-body-μ-loop
 run-body-enum-told-3 t c = search needs
@@ -368,14 +368,14 @@ run-body-sub-line t c = search needs
 
 run-body-add-line : (t : ℕ) → run-body-lts.Need-add-line (run-body-claims t) (run-body-at t) run-body.Post run-body-Inv-loop run-body-μ-loop
 run-body-add-line t c =
-    let r = c .before .before .before .before .before .before .before .before .before .before .before .before .before .before .run-ordinary .ensures .stops in
+    let r = c .before .before .before .before .before .before .before .before .before .before .before .before .before .before .run-stretch .ensures .stops in
     let e = c .before .before .before .before .before .before .before .before .line-end in
     omega (arith, r .numbered, r .inside, e .ensures .0, e .ensures .1, c .next-block .ensures .1, c .before .before .before .before .before .before .before .before .before .before .before .before .before .before .before .before .before .before .before .before .good)
 
 run-body-loop-less : (t : ℕ) → run-body-lts.Need-loop-less (run-body-claims t) (run-body-at t) run-body.Post run-body-Inv-loop run-body-μ-loop
 run-body-loop-less t c =
     let p = c .before .before .before .before .before .before .before .before .before .before .before .before .before .before .before .before .before .loop in
-    let r = c .before .before .before .before .before .before .before .before .before .before .before .before .before .before .run-ordinary in
+    let r = c .before .before .before .before .before .before .before .before .before .before .before .before .before .before .run-stretch in
     let e = c .before .before .before .before .before .before .before .before .line-end in
     let t = c .before .before .before .before .before .before .before .before .before .before .before .before .before .before .before .before .before .before .before .before .args .body .now in
     let i : r .result .at < length t = omega (arith, r .ensures .stops .inside, c .before .before .before .before .before .before .before .before .before .if1 .left) in
@@ -384,7 +384,7 @@ run-body-loop-less t c =
 run-body-loop-again : (t : ℕ) → run-body-lts.Need-loop-again (run-body-claims t) (run-body-at t) run-body.Post run-body-Inv-loop run-body-μ-loop
 run-body-loop-again t c =
     let a = c .before .before .before .before .before .before .before .before .before .before .before .before .before .before .before .before .before .before .before .before .args in
-    let r = c .before .before .before .before .before .before .before .before .before .before .before .before .before .before .run-ordinary in
+    let r = c .before .before .before .before .before .before .before .before .before .before .before .before .before .before .run-stretch in
     let e = c .before .before .before .before .before .before .before .before .line-end in
     let b = c .before .before .before .before .before .run-line in
     let n = length (a .list .now) in
@@ -392,7 +392,7 @@ run-body-loop-again t c =
     let i = stop-inside t (c .before .before .before .before .before) in (
       record { inside = x .ensures .1; numbered = omega (arith, r .ensures .stops .numbered, e .ensures .0, x .ensures .0); block = next-stop (a .body .now) (e .result) (x .result) (x .ensures .0) },
       b .kept .1 .0 ∙ r .kept .0 ∙ c .before .before .before .before .before .before .before .before .before .before .before .before .before .before .before .before .before .loop .inv .1,
-      turn-passed (lent n) (a .text .now) (a .macros) (a .depth) (a .frame) (a .body .now) (r .last .0) (a .list .now) (b .last .1 .0) (a .progress .hits) _ (r .result .at) (e .result) (x .result) (r .result .line) (r .result .progress) (b .result .progress) (b .result .status) i (r .ensures .stops .block i) (e .ensures .0) (line-made t (c .before .before .before .before .before)) (row-left t (c .before .before .before .before .before)) (c .before .before .enum-told3 .given .1) (x .ensures .0),
+      turn-passed (lent n) (a .text .now) (a .macros) (a .depth) (a .frame) (a .body .now) (r .last .0) (a .list .now) (b .last .1 .0) (a .progress .hits) _ (r .result .at) (e .result) (x .result) (r .result .line) (r .result .progress) (b .result .progress) (b .result .status) i (r .ensures .stops .block i) (e .ensures .0) (line-made t (c .before .before .before .before .before)) (stretch-left t (c .before .before .before .before .before)) (c .before .before .enum-told3 .given .1) (x .ensures .0),
     )
 
 run-body-passed-requires-2 : (t : ℕ) → run-body-lts.Need-passed-requires-2 (run-body-claims t) (run-body-at t) run-body.Post run-body-Inv-loop run-body-μ-loop
@@ -499,7 +499,7 @@ pub +run-block+run-body+run-line-spec : {M : Type 1} → statement M
     run-body-Inv-loop
     run-body-μ-loop
     (run-body-loop-holds t)
-    (run-body-run-ordinary-requires t)
+    (run-body-run-stretch-requires t)
     (run-body-enum-known-status t)
     (run-body-refused-requires t)
     (run-body-same-length t)

@@ -64,16 +64,16 @@ lies c = c .point .ensures ∙ place-is (c .before .before .before)
 begins : (c : tie.After-with-state Inv-loop μ-loop) → c .with-state .result ≡ withState (c .before .before .before .before .before .before .before .loop .now) (copyStart (c .before .before .before .before .before .before .before .before .before .before .before .before .before .before .before .before .args .progress .state) (c .before .before .point .result))
 begins c = c .with-state .ensures ∙ ap (withState (c .before .before .before .before .before .before .before .loop .now)) (c .before .copy-start .ensures)
 
--- and carries the body out: ordinary blocks in a row, and then what is left
+-- and carries the body out: direct blocks one after another, and then what is left
 came-how : (c : tie.Joined2 Inv-loop μ-loop) → let a = c .before .before .before .before .before .before .before .before .before .before .before .before .before .before .before .before .before .before .before .before .args in let n = length (a .list .now) in
-    (Ran hits (c .if2 .outcome .status) (c .if2 .outcome .progress) (c .before .before .run-ordinary .last .0) (c .if2 .list) (c .before .before .run-ordinary .result .progress .hits)
-    (resume (c .before .before .run-ordinary .result .status) (restOf (lent n) (a .text .now) (a .setup .macros) (frameAt (ordinaryFrame (a .setup)) (c .before .before .before .before .before .before .point .result)) (a .body .now) (c .before .before .run-ordinary .result))))
-    × (length (c .if2 .list) ≡ length (c .before .before .run-ordinary .last .0))
+    (Ran hits (c .if2 .outcome .status) (c .if2 .outcome .progress) (c .before .before .run-stretch .last .0) (c .if2 .list) (c .before .before .run-stretch .result .progress .hits)
+    (resume (c .before .before .run-stretch .result .status) (restOf (lent n) (a .text .now) (a .setup .macros) (frameAt (ordinaryFrame (a .setup)) (c .before .before .before .before .before .before .point .result)) (a .body .now) (c .before .before .run-stretch .result))))
+    × (length (c .if2 .list) ≡ length (c .before .before .run-stretch .last .0))
 came-how c =
     let a = c .before .before .before .before .before .before .before .before .before .before .before .before .before .before .before .before .before .before .before .before .args in
     let n = length (a .list .now) in
     let f = frameAt (ordinaryFrame (a .setup)) (c .before .before .before .before .before .before .point .result) in
-    let r = c .before .before .run-ordinary in
+    let r = c .before .before .run-stretch in
     let same = r .kept .0 ∙ c .before .before .before .before .before .before .before .before .before .before .before .loop .inv .2 in
     elim (c .if2 .came) [
       | inl x ↦ rw (x .4, x .5) (rw same at (x .2 .ensures), x .2 .kept .0)
@@ -89,7 +89,7 @@ ran c =
     let a = c .before .before .before .before .before .before .before .before .before .before .before .before .before .before .before .before .before .before .before .before .args in
     let n = length (a .list .now) in
     let f = frameAt (ordinaryFrame (a .setup)) (c .before .before .before .before .before .before .point .result) in
-    let r = c .before .before .run-ordinary in
+    let r = c .before .before .run-stretch in
     resumed (lent n) (call (lent n) (a .text .now) (a .setup .macros) f (mostCalls - 1)) f (a .body .now) (a .opening .at) (a .opening .line) (c .before .before .before .before .with-state .result) (r .result) (c .before .before .before .before .before .before .before .before .before .before .before .loop .list) (r .last .0) (c .if2 .list)
     (c .if2 .outcome .status) (c .if2 .outcome .progress) (rw (c .before .before .before .before .before .before .before .before .before .before .before .loop .inv .2) at (r .ensures)) (came-how c .0)
 
@@ -147,11 +147,11 @@ copy-start-requires c κs = search needs
 with-state-requires : tie.Need-with-state-requires Inv-loop μ-loop
 with-state-requires c κs = search needs
 
-run-ordinary-requires : tie.Need-run-ordinary-requires Inv-loop μ-loop
-run-ordinary-requires c κs = c .before .before .before .before .before .before .before .before .before .before .before .before .before .before .before .before .before .pre .1
+run-stretch-requires : tie.Need-run-stretch-requires Inv-loop μ-loop
+run-stretch-requires c κs = c .before .before .before .before .before .before .before .before .before .before .before .before .before .before .before .before .before .pre .1
 
 finish-requires : tie.Need-finish-requires Inv-loop μ-loop
-finish-requires c κs = (c .before .before .before .before .before .before .before .before .before .before .before .before .before .before .before .before .before .before .before .before .before .pre .0, c .before .before .before .run-ordinary .ensures .stops)
+finish-requires c κs = (c .before .before .before .before .before .before .before .before .before .before .before .before .before .before .before .before .before .before .before .before .before .pre .0, c .before .before .before .run-stretch .ensures .stops)
 
 ended-requires : tie.Need-ended-requires Inv-loop μ-loop
 ended-requires c κs = search needs
@@ -160,7 +160,7 @@ enum-told : tie.Need-enum-told Inv-loop μ-loop
 enum-told c = search needs
 
 same-length-2 : tie.Need-same-length-2 Inv-loop μ-loop
-same-length-2 c = came-how (c .before .before) .1 ∙ c .before .before .before .before .run-ordinary .kept .0 ∙ c .before .before .before .before .before .before .before .before .before .before .before .before .before .loop .inv .2
+same-length-2 c = came-how (c .before .before) .1 ∙ c .before .before .before .before .run-stretch .kept .0 ∙ c .before .before .before .before .before .before .before .before .before .before .before .before .before .loop .inv .2
 
 returns-2 : tie.Need-returns-2 Inv-loop μ-loop
 returns-2 c =
@@ -198,7 +198,7 @@ loop-again c =
     let b = c .before .before .before .before .if2 in (
       omega (arith, c .before .before .before .before .before .before .before .before .before .before .before .before .before .before .loop-test .taken),
       advanced (a .layout) (a .copies) (l .result) (n .result) (p .m) (p .cursor) (l .ensures) (n .ensures) (c .before .before .before .before .before .before .before .before .before .before .before .before .before .before .loop-test .taken) (p .inv .1 (c .before .before .before .before .before .before .before .before .before .before .before .before .before .before .loop-test .taken)) (c .advance .result) (c .advance .ensures),
-      came-how (c .before .before .before .before) .1 ∙ c .before .before .before .before .before .before .run-ordinary .kept .0 ∙ p .inv .2,
+      came-how (c .before .before .before .before) .1 ∙ c .before .before .before .before .before .before .run-stretch .kept .0 ∙ p .inv .2,
       turn-passed (length (a .list .now)) (openedPart (lent (length (a .list .now))) (a .text .now) (a .setup .macros) (a .opening) (a .body .now)) (ordinaryFrame (a .setup)) (a .line) (a .progress .state)
           (copyPlace (a .setup .origin) (a .layout) (a .copies)) (c .before .before .before .before .before .before .before .before .before .before .before .before .before .before .before .before .before .copy-count .result) (p .m) (p .now) (p .list) (a .list .now) (a .progress .hits) _ (c .before .before .before .before .before .before .before .before .before .before .before .before .before .before .loop-test .taken) (p .inv .3)
           (c .before .before .before .before .before .before .before .before .before .before .point .result) (c .before .before .before .before .before .before .before .before .with-state .result) (b .outcome .progress) (b .outcome .status) (b .list) (lies (c .before .before .before .before .before .before .before .before .before .before)) (begins (c .before .before .before .before .before .before .before .before)) (is-close (c .before .before .before .before .before .before .before .before .before .before .before)) (ran (c .before .before .before .before)) (c .before .before .enum-told2 .given .1),
@@ -236,7 +236,7 @@ copy-body-spec =
     point-requires
     copy-start-requires
     with-state-requires
-    run-ordinary-requires
+    run-stretch-requires
     finish-requires
     ended-requires
     enum-told

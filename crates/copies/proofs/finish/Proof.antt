@@ -1,4 +1,4 @@
--- By the status of the row. Assumes nothing.
+-- By the status of the stretch. Assumes nothing.
 use mathlib.Core.Path.{refl}
 use Rattle.aries.proofs.Carried.{carried-refused}
 use borrow.Author.Needs.{needs}
@@ -15,7 +15,7 @@ returns : tie.Need-returns
 returns c =
     let a = c .before .before .before .before .before .before .before .args in
     let x = c .before .before .status .given in
-    rw (x .1) (carried-refused (c .refused .result) (a .row .progress) (a .list .now) (a .list .now) (a .row .progress .hits) (x .0 .0) (x .0 .1 .0) _ (c .refused .ensures) refl)
+    rw (x .1) (carried-refused (c .refused .result) (a .stretch .progress) (a .list .now) (a .list .now) (a .stretch .progress .hits) (x .0 .0) (x .0 .1 .0) _ (c .refused .ensures) refl)
 
 enum-told : tie.Need-enum-told
 enum-told c = search needs

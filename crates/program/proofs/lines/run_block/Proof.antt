@@ -21,8 +21,8 @@ use Rattle.aries.specs.Setup.{withProgress}
 use Rattle.aries.specs.Program.{inPlace, begunOutside, carryOut}
 use Rattle.blocks.proofs.Decoded.{decoded-refused, decoded-done}
 use Rattle.program.proofs.Advances.{advanced-refused}
-use Rattle.decode.specs.Ordinary.{isOrdinary}
-use Rattle.program.proofs.Rows.{apart-in-place, apart-by-line}
+use Rattle.decode.specs.Direct.{isDirect}
+use Rattle.program.proofs.Direct.{apart-in-place, apart-by-line}
 use Rattle.bodies.proofs.OutsideBlocks.{first-byte, block-spent, block-refused, block-misplaced, block-carried, still-few, begun-hits}
 use Rattle.bodies.proofs.TextRuns.{hits}
 use Rattle.aries.specs.Runs.{Ran}
@@ -122,8 +122,8 @@ with-progress-requires c κs = search needs
 add-carry-out : tie.Need-add-carry-out
 add-carry-out c = omega (arith, c .before .before .before .before .before .before .before .before .before .before .before .before .before .before .before .pre .0 .1 .0, c .before .before .before .before .before .before .before .before .before .before .before .before .before .before .before .pre .0 .1 .1 .1 .1)
 
--- a block that is in its place is not ordinary
-block-apart : (c : tie.Else2) → isOrdinary (c .before .before .before .decoded2 .given .0 .0 .block) ≡ false
+-- a block that is in its place is not direct
+block-apart : (c : tie.Else2) → isDirect (c .before .before .before .decoded2 .given .0 .0 .block) ≡ false
 block-apart c =
     let a = c .before .before .before .before .before .before .before .before .before .before .before .before .args in
     let l = take (a .end - a .at) (drop (a .at) (a .text .now)) in

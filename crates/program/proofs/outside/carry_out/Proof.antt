@@ -13,7 +13,7 @@ use Rattle.aries.specs.Setup.{atStage, setOrdinary, ordinaryFrame}
 use Rattle.aries.specs.Program.{carryOut}
 use Rattle.aries.specs.Runs.{Carried, Advanced}
 use Rattle.program.proofs.Advances.{advanced-refused, advanced-still, advanced-by}
-use Rattle.bodies.proofs.OutsideBlocks.{carry-out-ordinary}
+use Rattle.bodies.proofs.OutsideBlocks.{carry-out-as-in-body}
 use borrow.Author.Needs.{needs}
 use Rattle.program.proofs.outside.carry_out.Statement.{statement}
 use Rattle.program.proofs.outside.carry_out.Tie as tie
@@ -135,7 +135,7 @@ returns-8 c =
     let f = ordinaryFrame (a .program .setup) in
     let r = c .before .before .run-block in
     let e : Carried (r .result) (a .list .now) (r .last .1 .0) (a .program .progress .hits) (carry j (call j (a .text .now) (a .program .setup .macros) f mostCalls) f (a .line) (a .block) (a .program .progress)) = rw (c .before .before .before .frame .ensures) at (r .ensures) in
-    rw (carry-out-ordinary j (a .text .now) (a .next) (a .line) (lines (drop (a .next) (a .text .now))) (a .block) (a .program) (c .before .before .before .before .before .before .match .keys8))
+    rw (carry-out-as-in-body j (a .text .now) (a .next) (a .line) (lines (drop (a .next) (a .text .now))) (a .block) (a .program) (c .before .before .before .before .before .before .match .keys8))
     (advanced-by (c .advanced2 .result) (a .program) (r .result) (a .list .now) _ (a .program .progress .hits) _ (c .advanced2 .ensures) e)
 
 pub carry-out-spec : {M : Type 1} → statement M

@@ -1,4 +1,4 @@
--- What the ordinary blocks in a row at a place of the text come to, outside bodies.
+-- What a stretch of direct blocks at a place of the text comes to, outside bodies.
 use mathlib.Core.Path.{_≡_}
 use mathlib.Core.List.{List}
 use Prim.Native.Nat.{ℕ, _+_, _<_, _≤_}
@@ -13,10 +13,10 @@ use Rattle.aries.specs.Hits.{Made, andThen}
 use Rattle.aries.specs.Judging.{Judging}
 use Rattle.aries.specs.Program.{runFrom}
 use Rattle.aries.specs.Runs.{Ran}
-use Rattle.bodies.specs.Ordinary.{AtBlock, Apart}
+use Rattle.bodies.specs.Stretches.{AtBlock, Apart}
 use Rattle.program.specs.declared.lines.Reached.{Reached}
 
--- Whatever follows the row follows what was made; it leaves the setup alone, and ends as a row does.
+-- Whatever follows the stretch follows what was made; it leaves the setup alone, and ends as a stretch does.
 pub record Reaches (j : Judging) (t : List ℕ) (at line : ℕ) (p : Program) (r : Reached) (before after : List ℤ) : Type 0 where
   pub made : Out (Made Program)
   pub ran : Ran (λ (q : Program). q .progress .hits) (r .status) (r .program) before after (p .progress .hits) made

@@ -14,8 +14,8 @@ ghost use Rattle.aries.specs.declared.state.Status.the-variants.{Passed};
 ghost use Rattle.aries.specs.Judging.{lent};
 ghost use Rattle.aries.specs.Macros.{carry};
 ghost use Rattle.aries.specs.Runs.{Carried};
-ghost use Rattle.decode.specs.Ordinary.{isOrdinary};
-ghost use Rattle.bodies.specs.Ordinary.{noCalls, AtBlock, Stretches};
+ghost use Rattle.decode.specs.Direct.{isDirect};
+ghost use Rattle.bodies.specs.Stretches.{noCalls, AtBlock, Stretches};
 
 // A block that calls nothing; a W block is left to the caller and out of place here.
 pub fn carry(list: &mut [i32], frame: Frame, line: u64, block: Block, progress: Progress) -> Outcome
@@ -45,8 +45,8 @@ pub fn carry(list: &mut [i32], frame: Frame, line: u64, block: Block, progress: 
 }
 
 // Whether a block is one that calls nothing and may stand in a body.
-fn is_ordinary(block: Block) -> bool
-    ensures { λ r. ⌜ r ≡ isOrdinary block ⌝ }
+fn is_direct(block: Block) -> bool
+    ensures { λ r. ⌜ r ≡ isDirect block ⌝ }
 {
     match block {
         Block::Read => true,
@@ -61,7 +61,7 @@ fn is_ordinary(block: Block) -> bool
     }
 }
 
-// Where a row of ordinary blocks ends, and what it leaves. After a refusal the progress is of no account.
+// Where a stretch of direct blocks ends, and what it leaves. After a refusal the progress is of no account.
 pub struct Stretch {
     pub status: Status,
     pub progress: Progress,
@@ -83,9 +83,9 @@ impl Stretch {
     }
 }
 
-// Ordinary blocks in a row, from one at a place on: up to a refusal, the end of the text or a block that is not ordinary
+// Direct blocks one after another, from one at a place on: up to a refusal, the end of the text or a block that is not direct
 // or has a refusal of its own.
-pub fn run_ordinary(
+pub fn run_stretch(
     list: &mut [i32],
     text: &[u8],
     from: usize,
@@ -111,7 +111,7 @@ pub fn run_ordinary(
             return Stretch::up_to(at, line, now);
         };
         let block = block_of(&forms, &numbers, kind);
-        if !is_ordinary(block) {
+        if !is_direct(block) {
             return Stretch::up_to(at, line, now);
         }
         let outcome = carry(list, frame, line, block, now.begun(measure));

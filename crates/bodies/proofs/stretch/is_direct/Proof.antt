@@ -1,9 +1,9 @@
 -- By the tag of the block.
 use mathlib.Core.Path.{sym}
-use Rattle.bodies.proofs.Tags.{not-ordinary}
+use Rattle.bodies.proofs.Tags.{not-direct}
 use borrow.Author.Needs.{needs}
-use Rattle.bodies.proofs.ordinary.is_ordinary.Statement.{statement}
-use Rattle.bodies.proofs.ordinary.is_ordinary.Tie as tie
+use Rattle.bodies.proofs.stretch.is_direct.Statement.{statement}
+use Rattle.bodies.proofs.stretch.is_direct.Tie as tie
 
 enum-told : tie.Need-enum-told
 enum-told c = search needs
@@ -54,10 +54,10 @@ returns-8 : tie.Need-returns-8
 returns-8 c = search needs
 
 returns-9 : tie.Need-returns-9
-returns-9 c = sym (not-ordinary (c .before .args .block) (c .match .keys9))
+returns-9 c = sym (not-direct (c .before .args .block) (c .match .keys9))
 
-pub is-ordinary-spec : {M : Type 1} → statement M
-is-ordinary-spec =
+pub is-direct-spec : {M : Type 1} → statement M
+is-direct-spec =
     tie.close
     (tie.spec
     enum-told

@@ -1,4 +1,4 @@
--- While the program runs, by the row that was carried out; at any other stage there is none.
+-- While the program runs, by the stretch that was carried out; at any other stage there is none.
 use mathlib.Core.Path.{refl, sym}
 use native.Mathlib.Nat.{le-refl}
 use lib.ListN.{length, drop}
@@ -10,10 +10,10 @@ use Rattle.aries.specs.Program.{runFrom}
 use Rattle.aries.specs.Setup.{withProgress}
 use Rattle.aries.proofs.Runs.{ran-still, ran-leaving, still-then}
 use Rattle.bodies.proofs.TextRuns.{hits}
-use Rattle.program.proofs.Rows.{not-running}
+use Rattle.program.proofs.Direct.{not-running}
 use borrow.Author.Needs.{needs}
-use Rattle.program.proofs.lines.run_row.Statement.{statement}
-use Rattle.program.proofs.lines.run_row.Tie as tie
+use Rattle.program.proofs.lines.run_direct.Statement.{statement}
+use Rattle.program.proofs.lines.run_direct.Tie as tie
 
 enum-told : tie.Need-enum-told
 enum-told c = search needs
@@ -36,8 +36,8 @@ returns c =
 frame-requires : tie.Need-frame-requires
 frame-requires c κs = search needs
 
-run-ordinary-requires : tie.Need-run-ordinary-requires
-run-ordinary-requires c κs = search needs
+run-stretch-requires : tie.Need-run-stretch-requires
+run-stretch-requires c κs = search needs
 
 with-progress-requires : tie.Need-with-progress-requires
 with-progress-requires c κs = search needs
@@ -49,12 +49,12 @@ returns-2 : tie.Need-returns-2
 returns-2 c =
     let a = c .before .before .before .before .before .before .before .before .before .before .before .args in
     let p = a .program in
-    let r = c .before .before .before .run-ordinary in
+    let r = c .before .before .before .run-stretch in
     let s = r .ensures in
     rw (c .with-progress .ensures) (record {
       made = leaving (withProgress p) (s .made);
       ran = ran-leaving (λ (g : Progress). g .hits) hits (withProgress p) (λ g. refl) (s .made) (r .result .status) (r .result .progress) (a .list .now) (r .last .0) (p .progress .hits) (s .ran);
-      leads = s .row .outside p (c .before .before .before .before .before .before .before .before .enum-told .given .1) (sym (c .before .before .before .before .frame .ensures)) refl;
+      leads = s .continues .outside p (c .before .before .before .before .before .before .before .before .enum-told .given .1) (sym (c .before .before .before .before .frame .ensures)) refl;
       kept = refl;
       stops = s .stops;
       advances = s .advances;
@@ -62,14 +62,14 @@ returns-2 c =
       apart = λ e i t. s .apart e i;
     })
 
-pub run-row-spec : {M : Type 1} → statement M
-run-row-spec =
+pub run-direct-spec : {M : Type 1} → statement M
+run-direct-spec =
     tie.close
     (tie.spec
     enum-told
     returns
     frame-requires
-    run-ordinary-requires
+    run-stretch-requires
     with-progress-requires
     same-length
     returns-2)

@@ -1,4 +1,4 @@
--- Laws of rows of ordinary blocks outside bodies, and of blocks that are not ordinary.
+-- Laws of stretches of direct blocks outside bodies, and of blocks that are not direct.
 use mathlib.Core.Path.{_≡_, refl, sym, subst}
 use mathlib.Core.Bool.{Bool, true, false}
 use mathlib.Core.List.{List, [], _∷_}
@@ -20,9 +20,9 @@ use Rattle.aries.specs.Blocks.{decode}
 use Rattle.aries.specs.Bodies.{startsWith}
 use Rattle.aries.specs.Program.{isMachine, inPlace}
 use Rattle.decode.proofs.CloseLines.{close-line}
-use Rattle.bodies.specs.Ordinary.{ApartIn}
+use Rattle.bodies.specs.Stretches.{ApartIn}
 use Rattle.bodies.proofs.OutsideBlocks.{still-few}
-use Rattle.decode.specs.Ordinary.{isOrdinary}
+use Rattle.decode.specs.Direct.{isDirect}
 
 -- every stage but that of a program that runs
 abbrev pub notRunning : List ℕ
@@ -31,8 +31,8 @@ notRunning = 0 ∷ 2 ∷ 3 ∷ []
 pub not-running : (s : Stage) → OneOf notRunning (tagOf stage.the-type s) → s ≡ Running → ⊥
 not-running s h e = miss notRunning 1 tt (subst (λ (x : Stage). OneOf notRunning (tagOf stage.the-type x)) e h)
 
--- G92 is not ordinary
-machine-apart : (b : Block) → isMachine b ≡ true → isOrdinary b ≡ false
+-- G92 is not direct
+machine-apart : (b : Block) → isMachine b ≡ true → isDirect b ≡ false
 machine-apart (Machine q) h = refl
 machine-apart End h = refl
 machine-apart Read h = sym h
@@ -50,17 +50,17 @@ machine-apart (Close k) h = refl
 machine-apart (Call k) h = refl
 machine-apart (Copy c) h = refl
 
--- a block in its place is not ordinary, if none is while the program runs
-pub apart-in-place : (s : Stage) (b : Block) → inPlace s b ≡ true → (s ≡ Running → isOrdinary b ≡ false) → isOrdinary b ≡ false
+-- a block in its place is not direct, if none is while the program runs
+pub apart-in-place : (s : Stage) (b : Block) → inPlace s b ≡ true → (s ≡ Running → isDirect b ≡ false) → isDirect b ≡ false
 apart-in-place Fresh b h r = machine-apart b h
 apart-in-place Running b h r = r refl
 apart-in-place Storing b h r = let z : _≡_ {A = ℕ} 0 1 = cc in absurd (omega arith)
 apart-in-place Ended b h r = let z : _≡_ {A = ℕ} 0 1 = cc in absurd (omega arith)
 
 -- no block that may come is ordinary, if none that is counted is: a V line never is
-pub apart-by-line : (l : List ℕ) (line blocks : ℕ) (i : Instruction) → either (startsWith letterV l) (ltb blocks 100000) ≡ true → decode l line ≡ done i → ApartIn l line blocks → isOrdinary (i .block) ≡ false
+pub apart-by-line : (l : List ℕ) (line blocks : ℕ) (i : Instruction) → either (startsWith letterV l) (ltb blocks 100000) ≡ true → decode l line ≡ done i → ApartIn l line blocks → isDirect (i .block) ≡ false
 apart-by-line l line blocks i few d h = go (startsWith letterV l) refl
   where
-    go : (v : Bool) → startsWith letterV l ≡ v → isOrdinary (i .block) ≡ false
+    go : (v : Bool) → startsWith letterV l ≡ v → isDirect (i .block) ≡ false
     go true e = close-line l line i e d
     go false e = h i (still-few (startsWith letterV l) blocks few e) d

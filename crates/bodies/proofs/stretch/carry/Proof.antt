@@ -9,8 +9,8 @@ use Rattle.bodies.proofs.Tags.{carry-out-of-place}
 use mathlib.Core.Path.{_≡_, refl, ap, _∙_}
 use Prim.Native.Nat.{ℕ}
 use borrow.Author.Needs.{needs}
-use Rattle.bodies.proofs.ordinary.carry.Statement.{statement}
-use Rattle.bodies.proofs.ordinary.carry.Tie as tie
+use Rattle.bodies.proofs.stretch.carry.Statement.{statement}
+use Rattle.bodies.proofs.stretch.carry.Tie as tie
 
 enum-known-block : tie.Need-enum-known-block
 enum-known-block c = search needs

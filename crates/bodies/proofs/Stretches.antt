@@ -1,4 +1,4 @@
--- Laws of ordinary blocks in a row: the empty row, and a row with one block more.
+-- Laws of direct blocks one after another: the empty stretch, and a stretch with one block more.
 use mathlib.Core.Path.{_≡_, refl, sym, ap, _∙_, subst}
 use mathlib.Core.Bool.{Bool, true, false, not}
 use mathlib.Core.List.{List, [], _∷_, _++_, append-assoc}
@@ -31,15 +31,15 @@ use Rattle.aries.specs.Bodies.{startsWith}
 use Rattle.aries.specs.Moves.{withState, measuring}
 use Rattle.aries.specs.Macros.{Calls, carry, begun, call, mostCalls, runBlock, runLines}
 use Rattle.aries.specs.Setup.{withProgress, ordinaryFrame}
-use Rattle.aries.specs.Program.{isMachine, ordinary, begunOutside, carryOut, runLineOutside, runFrom}
+use Rattle.aries.specs.Program.{isMachine, asInBody, begunOutside, carryOut, runLineOutside, runFrom}
 use Rattle.aries.specs.Runs.{statusOf, Ran}
 use Rattle.aries.proofs.Runs.{still-then, Leads, leads-as, leads-on, leads-out}
 use Rattle.text.specs.Lines.{lineLength, blanks}
 use Rattle.text.proofs.Lines.{line-goes-on}
-use Rattle.decode.specs.Ordinary.{isOrdinary}
-use Rattle.bodies.specs.Ordinary.{noCalls, ApartIn, Apart, Row}
+use Rattle.decode.specs.Direct.{isDirect}
+use Rattle.bodies.specs.Stretches.{noCalls, ApartIn, Apart, Continues}
 use Rattle.decode.proofs.CloseLines.{close-line}
-use Rattle.bodies.proofs.Running.{block-carried, carry-ordinary, lines-block}
+use Rattle.bodies.proofs.Running.{block-carried, carry-direct, lines-block}
 use Rattle.bodies.proofs.OutsideBlocks as outside
 use Rattle.bodies.proofs.TextRuns.{line-then}
 
@@ -68,15 +68,15 @@ leaving-same : {A : Type 0} (o : Out (Made A)) → leaving (λ (a : A). a) o ≡
 leaving-same (done m) = refl
 leaving-same (refused number line) = refl
 
--- ---- An ordinary block, in a body and outside
+-- ---- A direct block, in a body and outside
 
--- an ordinary block is no call and no G92
-no-call : (b : Block) → isOrdinary b ≡ true → (n : ℕ) → b ≡ Call n → ⊥
-no-call b h n e = let z : isOrdinary (Call n) ≡ true = subst (λ (x : Block). isOrdinary x ≡ true) e h in let q : _≡_ {A = ℕ} 0 1 = cc in absurd (omega arith)
+-- a direct block is no call and no G92
+no-call : (b : Block) → isDirect b ≡ true → (n : ℕ) → b ≡ Call n → ⊥
+no-call b h n e = let z : isDirect (Call n) ≡ true = subst (λ (x : Block). isDirect x ≡ true) e h in let q : _≡_ {A = ℕ} 0 1 = cc in absurd (omega arith)
 
 module _ (j : Judging) (t : List ℕ) (next line : ℕ) (ls : List (List ℕ)) where
   -- outside bodies it is carried out as in a body, but may call four macros deep
-  carry-out : (b : Block) (p : Program) → isOrdinary b ≡ true
+  carry-out : (b : Block) (p : Program) → isDirect b ≡ true
       → carryOut j t next line ls b p ≡ leaving (withProgress p) (carry j noCalls (ordinaryFrame (p .setup)) line b (p .progress))
   unfolding carryOut carry
   carry-out (Machine q) p h = let z : _≡_ {A = ℕ} 0 1 = cc in absurd (omega arith)
@@ -96,7 +96,7 @@ module _ (j : Judging) (t : List ℕ) (next line : ℕ) (ls : List (List ℕ)) w
   carry-out (Call k) p h = let z : _≡_ {A = ℕ} 0 1 = cc in absurd (omega arith)
   carry-out (Copy c) p h = let z : _≡_ {A = ℕ} 0 1 = cc in absurd (omega arith)
 
-in-place : (b : Block) → isOrdinary b ≡ true → not (isMachine b) ≡ true
+in-place : (b : Block) → isDirect b ≡ true → not (isMachine b) ≡ true
 in-place (Machine q) h = h
 in-place End h = refl
 in-place Read h = refl
@@ -115,7 +115,7 @@ in-place (Call k) h = refl
 in-place (Copy c) h = refl
 
 -- it is counted, for its line is no V line
-module _ (l : List ℕ) (line : ℕ) (i : Instruction) (d : decode l line ≡ done i) (h : isOrdinary (i .block) ≡ true) where
+module _ (l : List ℕ) (line : ℕ) (i : Instruction) (d : decode l line ≡ done i) (h : isDirect (i .block) ≡ true) where
   no-close : startsWith letterV l ≡ false
   no-close = go (startsWith letterV l) refl
     where
@@ -136,11 +136,11 @@ module _ (l : List ℕ) (line : ℕ) (i : Instruction) (d : decode l line ≡ do
       ∙ ap (λ (g : Progress). carryOut (lent numbers) t next line ls (i .block) (withProgress p g)) b
       ∙ carry-out (lent numbers) t next line ls (i .block) (withProgress p (begun (p .progress) (i .measure))) h
 
--- ---- Rows
+-- ---- Stretches
 
 module _ (numbers : ℕ) (f : Frame) (t : List ℕ) (from first : ℕ) (g : Progress) where
-  pub row-start : Row (lent numbers) f t from first g (still g) from first
-  row-start =
+  pub stretch-start : Continues (lent numbers) f t from first g (still g) from first
+  stretch-start =
       record {
         in-body = λ c. sym (still-then g (runLines (lent numbers) c f first (lines (drop from t))));
         outside = λ p s e q. rw (sym q) (sym (still-then p (runFrom (lent numbers) t from first (lines (drop from t)))));
@@ -149,7 +149,7 @@ module _ (numbers : ℕ) (f : Frame) (t : List ℕ) (from first : ℕ) (g : Prog
   module _
       (o : Out (Made Progress)) (m : Made Progress) (now : Progress) (at end next line : ℕ) (i : Instruction) (made : o ≡ done m) (left : m .after ≡ now)
       (inside : at < length t) (block : getD t at 0 ≡ lineFeed → ⊥) (ends : end ≡ at + lineLength (drop at t)) (goes : next ≡ end + blanks (drop end t))
-      (few : now .blocks < 100000) (d : decode (take (end - at) (drop at t)) line ≡ done i) (h : isOrdinary (i .block) ≡ true) where
+      (few : now .blocks < 100000) (d : decode (take (end - at) (drop at t)) line ≡ done i) (h : isDirect (i .block) ≡ true) where
     abbrev pub more : Out (Made Progress)
     more = carry (lent numbers) noCalls f line (i .block) (begun now (i .measure))
 
@@ -159,15 +159,15 @@ module _ (numbers : ℕ) (f : Frame) (t : List ℕ) (from first : ℕ) (g : Prog
         let b : 0 < length (drop at t) = simp length-drop (omega arith) in
         simp length-take (omega arith)
 
-    pub row-more : Row (lent numbers) f t from first g o at line → Row (lent numbers) f t from first g (andThen o (λ _. more)) next (line + (next - end))
-    row-more r = record { in-body = body; outside = out }
+    pub stretch-more : Continues (lent numbers) f t from first g o at line → Continues (lent numbers) f t from first g (andThen o (λ _. more)) next (line + (next - end))
+    stretch-more r = record { in-body = body; outside = out }
       where
         step : next - end ≡ blanks (drop end t)
         step = omega arith
 
         body : (c : Calls) → runLines (lent numbers) c f first (lines (drop from t)) g ≡ andThen (andThen o (λ _. more)) (runLines (lent numbers) c f (line + (next - end)) (lines (drop next t)))
         body c =
-            let k = block-carried numbers c f line (take (end - at) (drop at t)) now few i d ∙ carry-ordinary (lent numbers) c f line (i .block) (begun now (i .measure)) (no-call (i .block) h) in
+            let k = block-carried numbers c f line (take (end - at) (drop at t)) now few i d ∙ carry-direct (lent numbers) c f line (i .block) (begun now (i .measure)) (no-call (i .block) h) in
             let l = lines-block (lent numbers) c f t at end line now inside block ends ∙ ap (λ (x : Out (Made Progress)). andThen x (runLines (lent numbers) c f (line + blanks (drop end t)) (lines (drop (end + blanks (drop end t)) t)))) (k ∙ sym (leaving-same more)) in
             r .in-body c
             ∙ ap (λ (x : Out (Made Progress)). andThen x (runLines (lent numbers) c f line (lines (drop at t)))) (sym (leaving-same o))
@@ -183,7 +183,7 @@ module _ (numbers : ℕ) (f : Frame) (t : List ℕ) (from first : ℕ) (g : Prog
             r .outside p s e q
             ∙ then-more (withProgress p) o m now more (runFrom (lent numbers) t at line (lines (drop at t))) (runFrom (lent numbers) t next (line + (next - end)) (lines (drop next t))) made left (rw step (rw goes l))
 
--- ---- What a row that was carried out promises
+-- ---- What a stretch that was carried out promises
 
 -- what is refused is refused in one way
 pub refused-by : {A : Type 0} (o : Out A) (number line : ℕ) → Refused number line ≡ statusOf o → o ≡ refused number line
@@ -194,11 +194,11 @@ refused-by (refused n l) number line e = cc
 done-by : {A : Type 0} (a b : A) → done a ≡ done b → a ≡ b
 done-by a b e = cc
 
--- a row that was refused leads nowhere, so that any place will do for its end
-pub row-refused :
+-- a stretch that was refused leads nowhere, so that any place will do for its end
+pub stretch-refused :
     (j : Judging) (f : Frame) (t : List ℕ) (from first : ℕ) (g : Progress) (made : Out (Made Progress)) (at line at' line' number place : ℕ) → made ≡ refused number place
-    → Row j f t from first g made at line → Row j f t from first g made at' line'
-row-refused j f t from first g made at line at' line' number place e r =
+    → Continues j f t from first g made at line → Continues j f t from first g made at' line'
+stretch-refused j f t from first g made at line at' line' number place e r =
     record {
       in-body = λ c. r .in-body c ∙ rw e refl;
       outside = λ p s h q. r .outside p s h q ∙ rw e refl;
@@ -223,25 +223,25 @@ module _ (t : List ℕ) (at end line blocks : ℕ) (ends : end ≡ at + lineLeng
       let q : _≡_ {A = ℕ} 0 1 = cc in
       absurd (omega arith)
 
-  -- the block is not ordinary
-  pub apart-other : (i : Instruction) → decode (take (end - at) (drop at t)) line ≡ done i → isOrdinary (i .block) ≡ false → Apart t at line blocks
+  -- the block is not direct
+  pub apart-other : (i : Instruction) → decode (take (end - at) (drop at t)) line ≡ done i → isDirect (i .block) ≡ false → Apart t at line blocks
   apart-other i e h k few d =
       let q : i ≡ k = done-by i k (sym e ∙ ap (λ (l : List ℕ). decode l line) (sym bytes) ∙ d) in
-      subst (λ (x : Instruction). isOrdinary (x .block) ≡ false) q h
+      subst (λ (x : Instruction). isDirect (x .block) ≡ false) q h
 
--- ---- A row in a loop: whoever carries out what follows it has carried out the whole
+-- ---- A stretch in a loop: whoever carries out what follows it has carried out the whole
 
 module _
     {A : Type 0} (hitsOf : A → ℕ) (made whole start : Out (Made A)) (rest : A → Out (Made A)) (status : Status) (left : A) (before after list₀ : List ℤ) (k k₀ : ℕ)
     (goes : start ≡ andThen made rest) (ran : Ran hitsOf status left before after k made) (lead : Leads hitsOf before k start list₀ k₀ whole) where
-  lead-row : Leads hitsOf before k (andThen made rest) list₀ k₀ whole
-  lead-row = leads-as hitsOf list₀ k₀ whole before k goes lead
+  lead-stretch : Leads hitsOf before k (andThen made rest) list₀ k₀ whole
+  lead-stretch = leads-as hitsOf list₀ k₀ whole before k goes lead
 
   told : {other : Status} → status ≡ other → Ran hitsOf other left before after k made
   told e = subst (λ (x : Status). Ran hitsOf x left before after k made) e ran
 
-  pub row-passed : status ≡ Passed → Leads hitsOf after (hitsOf left) (rest left) list₀ k₀ whole
-  row-passed e = leads-on hitsOf list₀ k₀ whole made rest left before after k (told e) lead-row
+  pub stretch-passed : status ≡ Passed → Leads hitsOf after (hitsOf left) (rest left) list₀ k₀ whole
+  stretch-passed e = leads-on hitsOf list₀ k₀ whole made rest left before after k (told e) lead-stretch
 
-  pub row-stopped : (number line : ℕ) → status ≡ Refused number line → Ran hitsOf (Refused number line) left list₀ after k₀ whole
-  row-stopped number line e = leads-out hitsOf list₀ k₀ whole made rest left before after k number line (told e) lead-row
+  pub stretch-stopped : (number line : ℕ) → status ≡ Refused number line → Ran hitsOf (Refused number line) left list₀ after k₀ whole
+  stretch-stopped number line e = leads-out hitsOf list₀ k₀ whole made rest left before after k number line (told e) lead-stretch

@@ -1,4 +1,4 @@
--- The loop's invariant: the next block is at hand, and the row so far is carried out as the definitions have it.
+-- The loop's invariant: the next block is at hand, and the stretch so far is carried out as the definitions have it.
 use mathlib.Core.Path.{_≡_, refl, sym, ap, _∙_, subst}
 use mathlib.Core.Bool.{true, false}
 use Prim.Native.Nat.{ℕ, _+_, _-_, _<_, _≤_}
@@ -18,20 +18,20 @@ use Rattle.aries.specs.Blocks.{decode}
 use Rattle.aries.specs.Runs.{Ran}
 use Rattle.aries.proofs.Runs.{ran-still, ran-then, passed-done}
 use Rattle.decode.proofs.Judging.{judged-of, judged-refused, judged-block}
-use Rattle.bodies.specs.Ordinary.{noCalls, AtBlock, Row, Stretches}
-use Rattle.bodies.proofs.Rows.{row-start, row-more, row-refused, refused-by, apart-spent, apart-refused, apart-other}
+use Rattle.bodies.specs.Stretches.{noCalls, AtBlock, Continues, Stretches}
+use Rattle.bodies.proofs.Stretches.{stretch-start, stretch-more, stretch-refused, refused-by, apart-spent, apart-refused, apart-other}
 use Rattle.bodies.proofs.Running.{hits}
 use Rattle.text.specs.Lines.{blanks}
 use Rattle.text.proofs.Lines.{line-goes-on, next-stop}
-use Rattle.bodies.proofs.ordinary.run_ordinary.Statement.{statement}
-use Rattle.bodies.proofs.ordinary.run_ordinary.Tie as tie
+use Rattle.bodies.proofs.stretch.run_stretch.Statement.{statement}
+use Rattle.bodies.proofs.stretch.run_stretch.Tie as tie
 
 abbrev Inv-loop : tie.InvT-loop
 Inv-loop list₀ text from first frame now₀ at₀ line₀ list now at line =
     (AtBlock text at line)
     × ((from ≤ at) × (line + from ≤ first + at))
     × (length list ≡ length list₀)
-    × ((made : Out (Made Progress)) × (Ran hits Passed now list₀ list (now₀ .hits) made) × (Row (lent (length list₀)) frame text from first now₀ made at line))
+    × ((made : Out (Made Progress)) × (Ran hits Passed now list₀ list (now₀ .hits) made) × (Continues (lent (length list₀)) frame text from first now₀ made at line))
 
 abbrev μ-loop : tie.MeasureT-loop
 μ-loop list₀ text from first frame now₀ at₀ line₀ list now at line = length text - at
@@ -40,7 +40,7 @@ loop-holds : tie.Need-loop-holds Inv-loop μ-loop
 loop-holds c =
     let a = c .before .args in
     let l = a .list .now in
-    (c .before .pre, (le-refl _, search needs), refl, (still (a .progress), ran-still hits (a .progress) l, row-start (length l) (a .frame) (a .text .now) (a .from) (a .first) (a .progress)))
+    (c .before .pre, (le-refl _, search needs), refl, (still (a .progress), ran-still hits (a .progress) l, stretch-start (length l) (a .frame) (a .text .now) (a .from) (a .first) (a .progress)))
 
 line-end-requires : tie.Need-line-end-requires Inv-loop μ-loop
 line-end-requires c κs = search needs
@@ -56,7 +56,7 @@ returns c =
     let a = c .before .before .before .before .before .before .before .args in
     let p = c .before .before .before .before .before .loop in
     let q = p .inv .3 in
-    rw (c .up-to .ensures) (record { made = q .0; ran = q .1; row = q .2; stops = p .inv .0; advances = p .inv .1 .0; paced = p .inv .1 .1; apart = λ e i. apart-spent (a .text .now) (p .at) (c .before .before .before .line-end .result) (p .line) (p .now .blocks) (c .before .before .before .line-end .ensures .0) (c .before .if1 .taken) })
+    rw (c .up-to .ensures) (record { made = q .0; ran = q .1; continues = q .2; stops = p .inv .0; advances = p .inv .1 .0; paced = p .inv .1 .1; apart = λ e i. apart-spent (a .text .now) (p .at) (c .before .before .before .line-end .result) (p .line) (p .now .blocks) (c .before .before .before .line-end .ensures .0) (c .before .if1 .taken) })
 
 sub-judge : tie.Need-sub-judge Inv-loop μ-loop
 sub-judge c = search needs
@@ -90,7 +90,7 @@ returns-2 c =
     rw (c .up-to2 .ensures) (record {
       made = q .0;
       ran = q .1;
-      row = q .2;
+      continues = q .2;
       stops = p .inv .0;
       advances = p .inv .1 .0;
       paced = p .inv .1 .1;
@@ -123,8 +123,8 @@ decodes c =
     let j = c .before .before .before .before .before .before .judge in
     judged-block (take (c .before .before .before .before .before .before .before .before .before .before .before .before .line-end .result - p .at) (drop (p .at) (c .before .before .before .before .before .before .before .before .before .before .before .before .before .before .before .before .args .text .now))) (j .last .1 .0) (j .last .1 .1 .0) (j .result) (j .ensures) (x .0 .0) (x .0 .1 .0) (c .block-of .result) (p .line) (x .1) (c .block-of .ensures)
 
-is-ordinary-requires : tie.Need-is-ordinary-requires Inv-loop μ-loop
-is-ordinary-requires c κs = search needs
+is-direct-requires : tie.Need-is-direct-requires Inv-loop μ-loop
+is-direct-requires c κs = search needs
 
 up-to-requires-3 : tie.Need-up-to-requires-3 Inv-loop μ-loop
 up-to-requires-3 c κs = search needs
@@ -140,12 +140,12 @@ returns-3 c =
     rw (c .up-to3 .ensures) (record {
       made = q .0;
       ran = q .1;
-      row = q .2;
+      continues = q .2;
       stops = p .inv .0;
       advances = p .inv .1 .0;
       paced = p .inv .1 .1;
       apart = λ e i. apart-other (a .text .now) (p .at) (c .before .before .before .before .before .before .before .before .before .before .before .before .before .before .before .line-end .result) (p .line) (p .now .blocks) (c .before .before .before .before .before .before .before .before .before .before .before .before .before .before .before .line-end .ensures .0) (instruction (c .before .before .before)) (decodes (c .before .before .before))
-          (sym (c .before .before .is-ordinary .ensures) ∙ not-true (c .before .before .is-ordinary .result) (c .before .if2 .taken));
+          (sym (c .before .before .is-direct .ensures) ∙ not-true (c .before .before .is-direct .result) (c .before .if2 .taken));
     })
 
 begun-requires : tie.Need-begun-requires Inv-loop μ-loop
@@ -176,9 +176,9 @@ made-ran c =
     ran-then hits (p .inv .3 .0) _ (b .result .status) (p .now) (b .result .progress) (a .list .now) (p .list) (b .last .0) (a .progress .hits) (p .inv .3 .1)
     (rw (p .inv .2) at (rw (c .before .begun .ensures) at (b .ensures)))
 
-made-row : (c : tie.After-carry Inv-loop μ-loop) (next : ℕ) → next ≡ c .before .before .before .before .before .before .before .before .before .before .before .before .before .before .before .before .before .line-end .result + blanks (drop (c .before .before .before .before .before .before .before .before .before .before .before .before .before .before .before .before .before .line-end .result) (c .before .before .before .before .before .before .before .before .before .before .before .before .before .before .before .before .before .before .before .before .before .args .text .now))
-    → Row (lent (length (c .before .before .before .before .before .before .before .before .before .before .before .before .before .before .before .before .before .before .before .before .before .args .list .now))) (c .before .before .before .before .before .before .before .before .before .before .before .before .before .before .before .before .before .before .before .before .before .args .frame) (c .before .before .before .before .before .before .before .before .before .before .before .before .before .before .before .before .before .before .before .before .before .args .text .now) (c .before .before .before .before .before .before .before .before .before .before .before .before .before .before .before .before .before .before .before .before .before .args .from) (c .before .before .before .before .before .before .before .before .before .before .before .before .before .before .before .before .before .before .before .before .before .args .first) (c .before .before .before .before .before .before .before .before .before .before .before .before .before .before .before .before .before .before .before .before .before .args .progress) (made c) next (c .before .before .before .before .before .before .before .before .before .before .before .before .before .before .before .before .before .before .before .loop .line + (next - c .before .before .before .before .before .before .before .before .before .before .before .before .before .before .before .before .before .line-end .result))
-made-row c next n =
+made-stretch : (c : tie.After-carry Inv-loop μ-loop) (next : ℕ) → next ≡ c .before .before .before .before .before .before .before .before .before .before .before .before .before .before .before .before .before .line-end .result + blanks (drop (c .before .before .before .before .before .before .before .before .before .before .before .before .before .before .before .before .before .line-end .result) (c .before .before .before .before .before .before .before .before .before .before .before .before .before .before .before .before .before .before .before .before .before .args .text .now))
+    → Continues (lent (length (c .before .before .before .before .before .before .before .before .before .before .before .before .before .before .before .before .before .before .before .before .before .args .list .now))) (c .before .before .before .before .before .before .before .before .before .before .before .before .before .before .before .before .before .before .before .before .before .args .frame) (c .before .before .before .before .before .before .before .before .before .before .before .before .before .before .before .before .before .before .before .before .before .args .text .now) (c .before .before .before .before .before .before .before .before .before .before .before .before .before .before .before .before .before .before .before .before .before .args .from) (c .before .before .before .before .before .before .before .before .before .before .before .before .before .before .before .before .before .before .before .before .before .args .first) (c .before .before .before .before .before .before .before .before .before .before .before .before .before .before .before .before .before .before .before .before .before .args .progress) (made c) next (c .before .before .before .before .before .before .before .before .before .before .before .before .before .before .before .before .before .before .before .loop .line + (next - c .before .before .before .before .before .before .before .before .before .before .before .before .before .before .before .before .before .line-end .result))
+made-stretch c next n =
     let a = c .before .before .before .before .before .before .before .before .before .before .before .before .before .before .before .before .before .before .before .before .before .args in
     let p = c .before .before .before .before .before .before .before .before .before .before .before .before .before .before .before .before .before .before .before .loop in
     let q = p .inv .3 in
@@ -186,9 +186,9 @@ made-row c next n =
     let t = a .text .now in
     let m = passed-done hits (q .0) (q .1 .same-status) in
     let i : p .at < length t = c .before .before .before .before .before .before .before .before .before .before .before .before .before .before .before .before .before .before .loop-test .taken in
-    row-more (length (a .list .now)) (a .frame) t (a .from) (a .first) (a .progress) (q .0) (m .0) (p .now) (p .at) (e .result) next (p .line) (instruction (c .before .before .before .before .before)) (m .1)
+    stretch-more (length (a .list .now)) (a .frame) t (a .from) (a .first) (a .progress) (q .0) (m .0) (p .now) (p .at) (e .result) next (p .line) (instruction (c .before .before .before .before .before)) (m .1)
     (sym (q .1 .same-left (m .0) (m .1))) i (p .inv .0 .block i) (e .ensures .0) n (c .before .before .before .before .before .before .before .before .before .before .before .before .before .before .before .if1 .left) (decodes (c .before .before .before .before .before))
-    (sym (c .before .before .before .before .is-ordinary .ensures) ∙ not-false (c .before .before .before .before .is-ordinary .result) (c .before .before .before .if2 .left)) (q .2)
+    (sym (c .before .before .before .before .is-direct .ensures) ∙ not-false (c .before .before .before .before .is-direct .result) (c .before .before .before .if2 .left)) (q .2)
 
 returns-4 : tie.Need-returns-4 Inv-loop μ-loop
 returns-4 c =
@@ -202,7 +202,7 @@ returns-4 c =
     record {
       made = made b;
       ran = r;
-      row = row-refused (lent (length (a .list .now))) (a .frame) (a .text .now) (a .from) (a .first) (a .progress) (made b) _ _ (p .at) (p .line) (x .0 .0) (x .0 .1 .0) d (made-row b (e + blanks (drop e (a .text .now))) refl);
+      continues = stretch-refused (lent (length (a .list .now))) (a .frame) (a .text .now) (a .from) (a .first) (a .progress) (made b) _ _ (p .at) (p .line) (x .0 .0) (x .0 .1 .0) d (made-stretch b (e + blanks (drop e (a .text .now))) refl);
       stops = p .inv .0;
       advances = p .inv .1 .0;
       paced = p .inv .1 .1;
@@ -243,7 +243,7 @@ loop-again c =
       record { inside = x .ensures .1; numbered = omega (arith, p .inv .0 .numbered, e .ensures .0, x .ensures .0); block = next-stop t (e .result) (x .result) (x .ensures .0) },
       (omega (arith, p .inv .1 .0, e .ensures .0, x .ensures .0), omega (arith, p .inv .1 .1, e .ensures .0, x .ensures .0)),
       b .carry .kept .0 ∙ p .inv .2,
-      (made b, rw s at (made-ran b), made-row b (x .result) (x .ensures .0)),
+      (made b, rw s at (made-ran b), made-stretch b (x .result) (x .ensures .0)),
     )
 
 up-to-requires-4 : tie.Need-up-to-requires-4 Inv-loop μ-loop
@@ -257,10 +257,10 @@ returns-5 c =
     let a = c .before .before .before .before .args in
     let p = c .before .before .loop in
     let q = p .inv .3 in
-    rw (c .up-to4 .ensures) (record { made = q .0; ran = q .1; row = q .2; stops = p .inv .0; advances = p .inv .1 .0; paced = p .inv .1 .1; apart = λ e i. absurd (omega (arith, i, c .before .loop-test .left)) })
+    rw (c .up-to4 .ensures) (record { made = q .0; ran = q .1; continues = q .2; stops = p .inv .0; advances = p .inv .1 .0; paced = p .inv .1 .1; apart = λ e i. absurd (omega (arith, i, c .before .loop-test .left)) })
 
-pub run-ordinary-spec : {M : Type 1} → statement M
-run-ordinary-spec =
+pub run-stretch-spec : {M : Type 1} → statement M
+run-stretch-spec =
     tie.close
     (tie.spec
     Inv-loop
@@ -280,7 +280,7 @@ run-ordinary-spec =
     same-length-2
     returns-2
     block-of-requires
-    is-ordinary-requires
+    is-direct-requires
     up-to-requires-3
     same-length-3
     returns-3
