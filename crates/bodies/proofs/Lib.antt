@@ -1,3 +1,4 @@
+pub mod Calls
 pub mod OutsideBlocks
 pub mod Stretches
 pub mod Running

@@ -4,10 +4,10 @@ use mathlib.Core.Bool.{Bool, true, false, not}
 use mathlib.Core.List.{List, [], _∷_, _++_, append-assoc}
 use Prim.Native.Nat.{ℕ, _+_, _-_, _<_, _≤_}
 use native.Mathlib.Omega.{arith}
-use borrow.Author.Tests.{lt-ltb}
+use borrow.Author.Tests.{lt-ltb, eqb-true, eqb-false}
 use denote.Enum.Declared.{tagOf}
 use types.Run.{OneOf, miss}
-use lib.Dec.{ltb}
+use lib.Dec.{eqb, ltb}
 use lib.IntN.{ℤ}
 use lib.ListN.{length, getD, take, drop, length-take, length-drop}
 use Rattle.aries.proofs.block.Block.{the-type}
@@ -33,13 +33,14 @@ use Rattle.aries.specs.Macros.{Calls, carry, begun, call, mostCalls, runBlock, 
 use Rattle.aries.specs.Setup.{withProgress, ordinaryFrame}
 use Rattle.aries.specs.Program.{isMachine, asInBody, begunOutside, carryOut, runLineOutside, runFrom}
 use Rattle.aries.specs.Runs.{statusOf, Ran}
-use Rattle.aries.proofs.Runs.{still-then, Leads, leads-as, leads-on, leads-out}
+use Rattle.aries.proofs.Runs.{still-then, Leads, leads-as, leads-on, leads-out, leads-end}
 use Rattle.text.specs.Lines.{lineLength, blanks}
 use Rattle.text.proofs.Lines.{line-goes-on}
 use Rattle.decode.specs.Direct.{isDirect}
-use Rattle.bodies.specs.Stretches.{noCalls, ApartIn, Apart, Continues}
+use Rattle.bodies.specs.declared.stretch.Stretch.{Stretch}
+use Rattle.bodies.specs.Stretches.{noCalls, ApartIn, Apart, Continues, endsAt, isOver, Stretches}
 use Rattle.decode.proofs.CloseLines.{close-line}
-use Rattle.bodies.proofs.Running.{block-carried, carry-direct, lines-block}
+use Rattle.bodies.proofs.Running.{block-carried, carry-direct, lines-block, lines-end, hits}
 use Rattle.bodies.proofs.OutsideBlocks as outside
 use Rattle.bodies.proofs.TextRuns.{line-then}
 
@@ -245,3 +246,32 @@ module _
 
   pub stretch-stopped : (number line : ℕ) → status ≡ Refused number line → Ran hitsOf (Refused number line) left list₀ after k₀ whole
   stretch-stopped number line e = leads-out hitsOf list₀ k₀ whole made rest left before after k number line (told e) lead-stretch
+
+-- what goes on is neither refused nor at the end
+pub not-over : (status : Status) (at size : ℕ) → endsAt status at size ≡ false → (status ≡ Passed) × (at ≡ size → ⊥)
+not-over Passed at size h = (refl, eqb-false at size h)
+not-over (Refused number line) at size h = let q : _≡_ {A = ℕ} 0 1 = cc in absurd (omega arith)
+
+-- a stretch in the loop over the blocks of a body
+module _
+    (numbers : ℕ) (c : Calls) (f : Frame) (t : List ℕ) (from first : ℕ) (g : Progress) (s : Stretch) (before after list₀ : List ℤ) (k₀ : ℕ) (whole : Out (Made Progress))
+    (m : Stretches (lent numbers) f t from first g s before after) (lead : Leads hits before (g .hits) (runLines (lent numbers) c f first (lines (drop from t)) g) list₀ k₀ whole) where
+  goes-on : s .status ≡ Passed → Leads hits after (s .progress .hits) (runLines (lent numbers) c f (s .line) (lines (drop (s .at) t)) (s .progress)) list₀ k₀ whole
+  goes-on e = stretch-passed hits (m .made) whole _ _ (s .status) (s .progress) before after list₀ (g .hits) k₀ (m .continues .in-body c) (m .ran) lead e
+
+  -- it goes on with another block
+  pub stretch-goes-on :
+      isOver s (length t) ≡ false
+      → (s .status ≡ Passed) × (s .at < length t) × Leads hits after (s .progress .hits) (runLines (lent numbers) c f (s .line) (lines (drop (s .at) t)) (s .progress)) list₀ k₀ whole
+  stretch-goes-on h = let n = not-over (s .status) (s .at) (length t) h in (n .0, omega (arith, n .1, m .stops .inside), goes-on (n .0))
+
+  -- it is all that is left
+  pub stretch-ends : isOver s (length t) ≡ true → Ran hits (s .status) (s .progress) list₀ after k₀ whole
+  stretch-ends h = go (s .status) refl
+    where
+      go : (status : Status) → s .status ≡ status → Ran hits (s .status) (s .progress) list₀ after k₀ whole
+      go (Refused number line) e = rw e (stretch-stopped hits (m .made) whole _ _ (s .status) (s .progress) before after list₀ (g .hits) k₀ (m .continues .in-body c) (m .ran) lead number line e)
+      go Passed e =
+          let z : eqb (s .at) (length t) ≡ true = rw e at h in
+          let q = lines-end (lent numbers) c f t (s .at) (s .line) (s .progress) (omega (arith, eqb-true (s .at) (length t) z)) in
+          rw e (leads-end hits list₀ k₀ whole (s .progress) after (leads-as hits list₀ k₀ whole after (s .progress .hits) q (goes-on e)))

@@ -24,25 +24,6 @@ clash h = let z : _≡_ {A = ℕ} 0 1 = cc in omega arith
 abbrev pub outOfPlace : List ℕ
 outOfPlace = 0 ∷ 1 ∷ 6 ∷ 7 ∷ 12 ∷ 13 ∷ 14 ∷ 15 ∷ []
 
-pub carry-out-of-place : (j : Judging) (f : Frame) (line : ℕ) (b : Block) (g : Progress) → OneOf outOfPlace (tagOf the-type b) → carry j noCalls f line b g ≡ refused 7 line
-unfolding carry
-carry-out-of-place j f line (Machine p) g h = refl
-carry-out-of-place j f line End g h = refl
-carry-out-of-place j f line Read g h = absurd (miss outOfPlace 2 tt h)
-carry-out-of-place j f line (Punch a t) g h = absurd (miss outOfPlace 3 tt h)
-carry-out-of-place j f line (Move a t) g h = absurd (miss outOfPlace 4 tt h)
-carry-out-of-place j f line (Origin a) g h = absurd (miss outOfPlace 5 tt h)
-carry-out-of-place j f line (Offset a) g h = refl
-carry-out-of-place j f line (Place l) g h = refl
-carry-out-of-place j f line (Run p t a) g h = absurd (miss outOfPlace 8 tt h)
-carry-out-of-place j f line (Recall n) g h = absurd (miss outOfPlace 9 tt h)
-carry-out-of-place j f line (Nibble b) g h = absurd (miss outOfPlace 10 tt h)
-carry-out-of-place j f line Idle g h = absurd (miss outOfPlace 11 tt h)
-carry-out-of-place j f line (Open n) g h = refl
-carry-out-of-place j f line (Close n) g h = refl
-carry-out-of-place j f line (Call n) g h = refl
-carry-out-of-place j f line (Copy k) g h = refl
-
 -- every block but W
 abbrev pub notCalls : List ℕ
 notCalls = 0 ∷ 1 ∷ 2 ∷ 3 ∷ 4 ∷ 5 ∷ 6 ∷ 7 ∷ 8 ∷ 9 ∷ 10 ∷ 11 ∷ 12 ∷ 13 ∷ 15 ∷ []
@@ -88,3 +69,7 @@ carry-apart j f line (Open n) g h = refl
 carry-apart j f line (Close n) g h = refl
 carry-apart j f line (Call n) g h = refl
 carry-apart j f line (Copy k) g h = refl
+
+-- so is one that its tag tells
+pub carry-out-of-place : (j : Judging) (f : Frame) (line : ℕ) (b : Block) (g : Progress) → OneOf outOfPlace (tagOf the-type b) → carry j noCalls f line b g ≡ refused 7 line
+carry-out-of-place j f line b g h = carry-apart j f line b g (not-direct b h)

@@ -1,9 +1,10 @@
 -- Stretches of direct blocks: one after another, with no other block between them. To them it is all one what a call
 -- does, and they are carried out alike in a body and outside bodies.
 use mathlib.Core.Path.{_≡_}
-use mathlib.Core.Bool.{false}
+use mathlib.Core.Bool.{Bool, true, false}
 use mathlib.Core.List.{List}
 use Prim.Native.Nat.{ℕ, _+_, _<_, _≤_}
+use lib.Dec.{eqb}
 use lib.IntN.{ℤ}
 use lib.ListN.{length, drop, take, getD}
 use Rattle.aries.specs.declared.block.Instruction.{Instruction}
@@ -11,7 +12,8 @@ use Rattle.aries.specs.declared.setup.Program.{Program}
 use Rattle.aries.specs.declared.setup.Stage.the-variants.{Running}
 use Rattle.aries.specs.declared.state.Frame.{Frame}
 use Rattle.aries.specs.declared.state.Progress.{Progress}
-use Rattle.aries.specs.declared.state.Status.the-variants.{Passed}
+use Rattle.aries.specs.declared.state.Status.{Status}
+use Rattle.aries.specs.declared.state.Status.the-variants.{Passed, Refused}
 use Rattle.aries.specs.Outcome.{Out, done, refused}
 use Rattle.aries.specs.Text.{lines, lineFeed}
 use Rattle.aries.specs.Blocks.{decode}
@@ -42,6 +44,14 @@ ApartIn l line blocks = (i : Instruction) → blocks < mostBlocks → decode l l
 -- the line at a place
 abbrev pub Apart : List ℕ → ℕ → ℕ → ℕ → Type 0
 Apart t at line blocks = ApartIn (take (lineLength (drop at t)) (drop at t)) line blocks
+
+-- Nothing is left behind a stretch in a text of so many bytes: it was refused, or has come to the end.
+abbrev pub endsAt : Status → ℕ → ℕ → Bool
+endsAt (Refused number line) at size = true
+endsAt Passed at size = eqb at size
+
+abbrev pub isOver : Stretch → ℕ → Bool
+isOver s size = endsAt (s .status) (s .at) size
 
 -- What a stretch of direct blocks has made, from a place to another: whatever follows the stretch, in a body and outside
 -- bodies, follows what was made.

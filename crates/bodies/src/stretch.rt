@@ -15,7 +15,7 @@ ghost use Rattle.aries.specs.Judging.{lent};
 ghost use Rattle.aries.specs.Macros.{carry};
 ghost use Rattle.aries.specs.Runs.{Carried};
 ghost use Rattle.decode.specs.Direct.{isDirect};
-ghost use Rattle.bodies.specs.Stretches.{noCalls, AtBlock, Stretches};
+ghost use Rattle.bodies.specs.Stretches.{noCalls, AtBlock, isOver, Stretches};
 
 // A block that calls nothing; a W block is left to the caller and out of place here.
 pub fn carry(list: &mut [i32], frame: Frame, line: u64, block: Block, progress: Progress) -> Outcome
@@ -80,6 +80,26 @@ impl Stretch {
             at,
             line,
         }
+    }
+
+    // Whether nothing is left to carry out behind it in a text of so many bytes: it was refused, or the text is at its end.
+    pub fn is_over(self, size: usize) -> bool
+        ensures { λ r. ⌜ r ≡ isOver self size ⌝ }
+    {
+        let status = self.status;
+        if let Status::Refused(_, _) = status {
+            return true;
+        }
+        self.at == size
+    }
+
+    // What it leaves.
+    pub fn outcome(self) -> Outcome
+        ensures { λ r. ⌜ r ≡ record { status = self .status; progress = self .progress } ⌝ }
+    {
+        let status = self.status;
+        let progress = self.progress;
+        Outcome { status, progress }
     }
 }
 

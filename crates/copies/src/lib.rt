@@ -35,15 +35,6 @@ pub fn copy_start(found: State, place: Point) -> State
     found.dropping().moved_to(place)
 }
 
-// What a stretch of direct blocks leaves that goes on to the end of the body.
-fn ended(stretch: Stretch) -> Outcome
-    ensures { λ r. ⌜ r ≡ record { status = stretch .status; progress = stretch .progress } ⌝ }
-{
-    let status = stretch.status;
-    let progress = stretch.progress;
-    Outcome { status, progress }
-}
-
 // The rest of a copy behind its first stretch of direct blocks, unless that was refused.
 fn finish(
     list: &mut [i32],
@@ -61,13 +52,16 @@ fn finish(
     if let Status::Refused(number, place) = status {
         return Outcome::refused(number, place, progress);
     }
+    let next = Opening {
+        at: stretch.at,
+        line: stretch.line,
+    };
     bodies::run_body(
         bodies::FURTHER_CALLS,
         list,
         text,
         body,
-        stretch.at,
-        stretch.line,
+        next,
         macros,
         frame,
         progress,
@@ -115,7 +109,7 @@ fn copy_body(
         let outcome = if stop < body.len() {
             finish(list, text, body, macros, frame, stretch)
         } else {
-            ended(stretch)
+            stretch.outcome()
         };
         let status = outcome.status;
         if let Status::Refused(_, _) = status {

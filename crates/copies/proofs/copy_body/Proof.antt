@@ -153,8 +153,8 @@ run-stretch-requires c κs = c .before .before .before .before .before .before .
 finish-requires : tie.Need-finish-requires Inv-loop μ-loop
 finish-requires c κs = (c .before .before .before .before .before .before .before .before .before .before .before .before .before .before .before .before .before .before .before .before .before .pre .0, c .before .before .before .run-stretch .ensures .stops)
 
-ended-requires : tie.Need-ended-requires Inv-loop μ-loop
-ended-requires c κs = search needs
+outcome-requires : tie.Need-outcome-requires Inv-loop μ-loop
+outcome-requires c κs = search needs
 
 enum-told : tie.Need-enum-told Inv-loop μ-loop
 enum-told c = search needs
@@ -238,7 +238,7 @@ copy-body-spec =
     with-state-requires
     run-stretch-requires
     finish-requires
-    ended-requires
+    outcome-requires
     enum-told
     same-length-2
     returns-2
