@@ -43,14 +43,15 @@ pub struct Memory {
     pub stored: Stored,
 }
 
-// The punching state: what a block of a body leaves to the next. A tool of 0 is none chosen.
+// The punching state: what a block of a body leaves to the next. A tool of 0 is none chosen. The memories, most of its
+// bytes, stand first, where they are copied aligned.
 pub struct State {
+    pub memories: [Memory; 5],
     pub current: Point,
     pub waiting: Pending,
     pub incremental: bool,
     pub nibble: bool,
     pub tool: u8,
-    pub memories: [Memory; 5],
 }
 
 impl State {

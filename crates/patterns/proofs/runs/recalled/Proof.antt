@@ -9,7 +9,7 @@ use Rattle.patterns.proofs.runs.recalled.Statement.{statement}
 use Rattle.patterns.proofs.runs.recalled.Tie as tie
 
 five : (c : tie.Start) → length (c .args .state .memories) ≡ 5
-five c = simp length-map at (c .good .0 .1 .1 .1 .1 .1 .1 .1 .0 .1 .0 .1)
+five c = simp length-map at (c .good .0 .1 .1 .0 .1 .0 .1)
 
 memory-requires : tie.Need-memory-requires
 memory-requires c κs = search needs

@@ -8,7 +8,7 @@ use Rattle.patterns.proofs.runs.remembering.Statement.{statement}
 use Rattle.patterns.proofs.runs.remembering.Tie as tie
 
 five : (c : tie.Start) → length (c .args .state .memories) ≡ 5
-five c = simp length-map at (c .good .0 .1 .1 .1 .1 .1 .1 .1 .0 .1 .0 .1)
+five c = simp length-map at (c .good .0 .1 .1 .0 .1 .0 .1)
 
 remembering-requires : tie.Need-remembering-requires
 remembering-requires c κs = search needs
