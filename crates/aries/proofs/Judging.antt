@@ -1,11 +1,18 @@
 -- Laws of what is judged of a point.
-use mathlib.Core.Path.{_≡_}
-use mathlib.Core.Bool.{true}
-use Prim.Native.Nat.{_≤_}
-use lib.IntN.{natAbs}
-use borrow.Author.Tests.{leb-true}
-use Rattle.signed.proofs.Tests.{both-left, both-right}
+use mathlib.Core.Path.{_≡_, refl}
+use mathlib.Core.Bool.{true, false}
+use Prim.Native.Nat.{suc, _≤_}
+use native.Mathlib.Omega.{arith}
+use lib.Dec.{leb}
+use lib.IntN.{ℤ, pos, negsuc, natAbs}
+use lib.Signed.{leZ}
+use borrow.Author.Tests.{leb-true, le-leb}
+use Rattle.signed.proofs.Tests.{both-left, both-right, both-true}
 use Rattle.aries.specs.declared.point.Point.{Point}
+use Rattle.aries.specs.declared.machine.Machine.{Machine}
+use Rattle.aries.specs.declared.machine.Machine.the-variants.{Aries222, Aries224}
+use Rattle.aries.specs.Test.{both}
+use Rattle.aries.specs.Machine.{leastEnd, rightEnd, topEnd, covers}
 use Rattle.aries.specs.Judging.{isNear, near, farthest}
 
 -- a near point's coordinates, in size
@@ -16,3 +23,31 @@ near-x p e = leb-true (natAbs (p .x)) farthest (both-left (isNear (p .x)) (isNea
 pub near-y : (p : Point) → near p ≡ true → natAbs (p .y) ≤ farthest
 unfolding near
 near-y p e = leb-true (natAbs (p .y)) farthest (both-right (isNear (p .x)) (isNear (p .y)) e)
+
+-- the punching range lies within the limit of 15: its right end does,
+right-near : (m : Machine) → isNear (rightEnd m) ≡ true
+right-near Aries222 = refl
+right-near Aries224 = refl
+
+-- and what is between two near numbers is near,
+between-near : (z low high : ℤ) → isNear low ≡ true → isNear high ≡ true → both (leZ low z) (leZ z high) ≡ true → isNear z ≡ true
+between-near (pos a) low (pos n) l h e =
+    let below = leb-true a n (both-right (leZ low (pos a)) (leb a n) e) in
+    let end = leb-true n farthest h in
+    le-leb a farthest (omega arith)
+between-near (pos a) low (negsuc n) l h e = let no = both-right (leZ low (pos a)) false e in cc
+between-near (negsuc a) (pos n) high l h e = cc
+between-near (negsuc a) (negsuc n) high l h e =
+    let above = leb-true a n (both-left (leb a n) (leZ (negsuc a) high) e) in
+    let end = leb-true (suc n) farthest l in
+    le-leb (suc a) farthest (omega arith)
+
+-- so that what a machine covers is near
+pub covers-near : (m : Machine) (p : Point) → covers m p ≡ true → near p ≡ true
+unfolding covers near
+covers-near m p e =
+    let inX = both (leZ leastEnd (p .x)) (leZ (p .x) (rightEnd m)) in
+    let inY = both (leZ leastEnd (p .y)) (leZ (p .y) topEnd) in
+    both-true (isNear (p .x)) (isNear (p .y))
+    (between-near (p .x) leastEnd (rightEnd m) refl (right-near m) (both-left inX inY e))
+    (between-near (p .y) leastEnd topEnd refl refl (both-right inX inY e))

@@ -3,7 +3,7 @@ use crate::block::Pattern;
 use crate::machine::Machine;
 use crate::point::Point;
 ghost use mathlib.Core.Path.{_≡_};
-ghost use Prim.Native.Nat.{_-_, _<_, _≤_};
+ghost use Prim.Native.Nat.{_-_, _<_};
 ghost use lib.ListN.{getD};
 ghost use Rattle.aries.specs.declared.state.Waiting.the-variants.{At};
 ghost use Rattle.aries.specs.declared.state.Status.the-variants.{Passed, Refused};
@@ -43,14 +43,18 @@ pub struct Memory {
     pub stored: Stored,
 }
 
-// The punching state: what a block of a body leaves to the next. A tool of 0 is none chosen.
+// How many pattern memories there are.
+pub const MEMORIES: usize = 5;
+
+// The punching state: what a block of a body leaves to the next. A tool of 0 is none chosen. The memories, most of its
+// bytes, stand first, where they are copied aligned.
 pub struct State {
+    pub memories: [Memory; MEMORIES],
     pub current: Point,
     pub waiting: Pending,
     pub incremental: bool,
     pub nibble: bool,
     pub tool: u8,
-    pub memories: [Memory; 5],
 }
 
 impl State {
@@ -62,7 +66,7 @@ impl State {
         let empty = Memory {
             stored: Stored::Empty,
         };
-        let memories = [empty; 5];
+        let memories = [empty; MEMORIES];
         let waiting = Pending {
             origin: Waiting::Unset,
         };
@@ -125,17 +129,18 @@ impl State {
         self
     }
 
-    // The state with a pattern in memory n; 0 is no A.
+    // The state with a pattern in memory n. 0 is no A, and past the last memory nothing is stored.
     pub fn remembering(mut self, n: u8, p: Pattern) -> State
-        requires { ⌜ n ≤ 5 ⌝ }
         ensures { λ r. ⌜ r ≡ remembering self n p ⌝ }
     {
         if 0 < n {
             let place = (n - 1) as usize;
-            let memory = Memory {
-                stored: Stored::Kept(p),
-            };
-            self.memories[place] = memory;
+            if place < MEMORIES {
+                let memory = Memory {
+                    stored: Stored::Kept(p),
+                };
+                self.memories[place] = memory;
+            }
         }
         self
     }
@@ -169,14 +174,17 @@ impl State {
         }
     }
 
-    // What pattern memory n holds.
+    // What pattern memory n holds: nothing past the last one, and for 0 what memory 1 does.
     pub fn memory(self, n: u8) -> Stored
-        requires { ⌜ (1 ≤ n) × (n ≤ 5) ⌝ }
         ensures { λ r. ⌜ r ≡ getD (self .memories) (n - 1) emptyMemory .stored ⌝ }
     {
-        let place = (n - 1) as usize;
-        let memory = self.memories[place];
-        memory.stored
+        let place = if 0 < n { (n - 1) as usize } else { 0 };
+        if place < MEMORIES {
+            let memory = self.memories[place];
+            memory.stored
+        } else {
+            Stored::Empty
+        }
     }
 }
 

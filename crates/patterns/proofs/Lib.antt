@@ -1,6 +1,5 @@
 pub mod Circles
 pub mod Holes
-pub mod Memories
 pub mod Offsets
 pub mod Patterns
 pub mod Punches

@@ -6,23 +6,17 @@ use aries::refusal;
 use aries::state::Frame;
 use aries::state::Outcome;
 use aries::state::Progress;
-use aries::state::State;
 use aries::state::Stored;
 use lanes::Cursor;
 use press::hits;
 ghost use mathlib.Core.Path.{_≡_};
 ghost use mathlib.Core.Bool.{true};
-ghost use Prim.Native.Nat.{_-_};
-ghost use lib.ListN.{length, getD};
+ghost use lib.ListN.{length};
 ghost use Rattle.aries.specs.Judging.{lent};
-ghost use Rattle.aries.specs.Moves.{remembering};
 ghost use Rattle.aries.specs.Hits.{leaving};
 ghost use Rattle.aries.specs.Runs.{Carried};
 ghost use Rattle.aries.specs.Patterns as Patterns;
-ghost use Rattle.aries.specs.Patterns.{holes, reaches, punches, ending, emptyMemory, runPattern, recall};
-
-// The last pattern memory.
-const MEMORIES: u8 = 5;
+ghost use Rattle.aries.specs.Patterns.{holes, reaches, punches, ending, runPattern, recall};
 
 // A circle ends at its start, any other pattern at its last hit.
 fn ending(pattern: Pattern, start: Point, progress: Progress) -> Progress
@@ -99,17 +93,6 @@ pub fn carry_out(
     punch_hits(list, frame, line, pattern, start, ready)
 }
 
-// The state with a pattern in memory n. 0 is no A, and past the last memory nothing is stored.
-fn remembering(state: State, n: u8, pattern: Pattern) -> State
-    ensures { λ r. ⌜ r ≡ remembering state n pattern ⌝ }
-{
-    if n <= MEMORIES {
-        state.remembering(n, pattern)
-    } else {
-        state
-    }
-}
-
 // A pattern block: T chooses the tool and A stores the pattern, both before the hits.
 pub fn run_pattern(
     list: &mut [i32],
@@ -124,22 +107,8 @@ pub fn run_pattern(
 {
     let state = progress.state;
     let chosen = state.choosing(tool);
-    let ready = progress.with_state(remembering(chosen, memory, pattern));
+    let ready = progress.with_state(chosen.remembering(memory, pattern));
     carry_out(list, frame, line, pattern, ready)
-}
-
-// What pattern memory n holds: nothing past the last one.
-fn recalled(state: State, n: u8) -> Stored
-    ensures { λ r. ⌜ r ≡ getD (state .memories) (n - 1) emptyMemory .stored ⌝ }
-{
-    if n == 0 {
-        return state.memory(1);
-    }
-    if n <= MEMORIES {
-        state.memory(n)
-    } else {
-        Stored::Empty
-    }
 }
 
 // A B block: what memory n holds is carried out, or refused where that is nothing.
@@ -147,7 +116,7 @@ pub fn recall(list: &mut [i32], frame: Frame, line: u64, n: u8, progress: Progre
     ensures { λ r. ⌜ Carried r (now (list .entry)) (now (list .exit)) (progress .hits) (recall (lent (length (now (list .entry)))) frame line n progress) ⌝ }
 {
     let state = progress.state;
-    let stored = recalled(state, n);
+    let stored = state.memory(n);
     match stored {
         Stored::Empty => Outcome::refused(refusal::NOT_STORED, line, progress),
         Stored::Kept(pattern) => carry_out(list, frame, line, pattern, progress),

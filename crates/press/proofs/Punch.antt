@@ -20,6 +20,7 @@ use Rattle.aries.specs.Machine.{covers}
 use Rattle.aries.specs.Hits.{Made}
 use Rattle.aries.specs.Moves.{hitOf, hitting, punch}
 use Rattle.aries.specs.Runs.{over, Ran}
+use Rattle.aries.proofs.Judging.{covers-near}
 use Rattle.aries.proofs.Runs.{ran-as, ran-refused, ran-made}
 use Rattle.press.specs.Hits.{hitNumber, listAfter, byNumber}
 
@@ -45,15 +46,15 @@ module _ (numbers : ℕ) (m : Machine) (p : Point) (tool hits : ℕ) where
   unfolding hitNumber
   number-out-of-range t n c = simp (lt-ltb 0 tool t, n, c)
 
-  -- 17
-  pub number-full : 0 < tool → near p ≡ true → covers m p ≡ true → numbers / 4 ≤ hits → hitNumber numbers m p tool hits ≡ 17
+  -- 17; what the machine covers is near
+  pub number-full : 0 < tool → covers m p ≡ true → numbers / 4 ≤ hits → hitNumber numbers m p tool hits ≡ 17
   unfolding hitNumber
-  number-full t n c r = simp (lt-ltb 0 tool t, n, c, le-ltb hits (numbers / 4) r)
+  number-full t c r = simp (lt-ltb 0 tool t, covers-near m p c, c, le-ltb hits (numbers / 4) r)
 
   -- a hit
-  pub number-none : 0 < tool → near p ≡ true → covers m p ≡ true → hits < numbers / 4 → hitNumber numbers m p tool hits ≡ 0
+  pub number-none : 0 < tool → covers m p ≡ true → hits < numbers / 4 → hitNumber numbers m p tool hits ≡ 0
   unfolding hitNumber
-  number-none t n c r = simp (lt-ltb 0 tool t, n, c, lt-ltb hits (numbers / 4) r)
+  number-none t c r = simp (lt-ltb 0 tool t, covers-near m p c, c, lt-ltb hits (numbers / 4) r)
 
 -- where no test fails, all hold
 all-hold : (t n c r : Bool) → chosen t n c r ≡ 0 → (n ≡ true) × (r ≡ true)

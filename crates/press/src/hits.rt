@@ -58,6 +58,8 @@ pub fn put_hit(list: &mut [i32], k: usize, p: Point, tool: u8, nibble: bool)
 }
 
 // Makes a hit with a tool in a mode, after so many hits, or refuses it: the answer is the refusal's number, or 0.
+// The punching range lies within the limit of 15, so whatever the machine covers is near, and 15 is told from 16 only
+// where the range is left.
 pub fn hit(
     list: &mut [i32],
     machine: Machine,
@@ -71,11 +73,11 @@ pub fn hit(
     if tool == 0 {
         return refusal::NO_TOOL;
     }
-    if !place.is_near() {
-        return refusal::TOO_FAR;
-    }
     if !machine.covers(place) {
-        return refusal::OUT_OF_RANGE;
+        if place.is_near() {
+            return refusal::OUT_OF_RANGE;
+        }
+        return refusal::TOO_FAR;
     }
     if places_left(list.len(), hits) == 0 {
         return refusal::LIST_FULL;

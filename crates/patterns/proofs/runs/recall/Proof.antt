@@ -10,8 +10,8 @@ use Rattle.patterns.proofs.Patterns.{recall-empty, recall-kept}
 use Rattle.patterns.proofs.runs.recall.Statement.{statement}
 use Rattle.patterns.proofs.runs.recall.Tie as tie
 
-recalled-requires : tie.Need-recalled-requires
-recalled-requires c κs = search needs
+memory-requires : tie.Need-memory-requires
+memory-requires c κs = search needs
 
 enum-told : tie.Need-enum-told
 enum-told c = search needs
@@ -31,7 +31,7 @@ returns c =
     let a = d .before .before .args in
     carried-refused (c .refused .result) (a .progress) (a .list .now) _ (a .progress .hits) 10 (a .line) _
     (c .refused .ensures)
-    (recall-empty (lent (length (a .list .now))) (a .frame) (a .line) (a .n) (a .progress) (sym (d .recalled .ensures) ∙ c .before .enum-told .given .1))
+    (recall-empty (lent (length (a .list .now))) (a .frame) (a .line) (a .n) (a .progress) (sym (d .memory .ensures) ∙ c .before .enum-told .given .1))
 
 same-length : tie.Need-same-length
 same-length c = search needs
@@ -43,14 +43,14 @@ returns-2 c =
     let a = d .before .before .args in
     let r = c .before .carry-out .result in
     ran-as (λ (g : Progress). g .hits) (r .status) (r .progress) (a .list .now) _ (a .progress .hits)
-    (recall-kept (lent (length (a .list .now))) (a .frame) (a .line) (a .n) (e .stored .given .0 .0) (a .progress) (sym (d .recalled .ensures) ∙ e .stored .given .1))
+    (recall-kept (lent (length (a .list .now))) (a .frame) (a .line) (a .n) (e .stored .given .0 .0) (a .progress) (sym (d .memory .ensures) ∙ e .stored .given .1))
     (c .before .carry-out .ensures)
 
 pub recall-spec : {M : Type 1} → statement M
 recall-spec =
     tie.close
     (tie.spec
-    recalled-requires
+    memory-requires
     enum-told
     refused-requires
     enum-known-stored
