@@ -22,6 +22,7 @@ pub mod Kept
 pub mod Ordinary
 pub mod CopyBlocks
 -- Laws that the functions' proofs cite.
+pub mod Advanced
 pub mod Carried
 pub mod Judging
 pub mod Named

@@ -97,23 +97,23 @@ module _ (j : Judging) (t : List ℕ) (next line : ℕ) (ls : List (List ℕ)) w
   carry-out (Call k) p h = let z : _≡_ {A = ℕ} 0 1 = cc in absurd (omega arith)
   carry-out (Copy c) p h = let z : _≡_ {A = ℕ} 0 1 = cc in absurd (omega arith)
 
-in-place : (b : Block) → isDirect b ≡ true → not (isMachine b) ≡ true
-in-place (Machine q) h = h
-in-place End h = refl
-in-place Read h = refl
-in-place (Punch a t) h = refl
-in-place (Move a t) h = refl
-in-place (Origin a) h = refl
-in-place (Offset a) h = refl
-in-place (Place l) h = refl
-in-place (Run q t a) h = refl
-in-place (Recall k) h = refl
-in-place (Nibble b) h = refl
-in-place Idle h = refl
-in-place (Open k) h = refl
-in-place (Close k) h = refl
-in-place (Call k) h = refl
-in-place (Copy c) h = refl
+pub no-machine : (b : Block) → isDirect b ≡ true → not (isMachine b) ≡ true
+no-machine (Machine q) h = h
+no-machine End h = refl
+no-machine Read h = refl
+no-machine (Punch a t) h = refl
+no-machine (Move a t) h = refl
+no-machine (Origin a) h = refl
+no-machine (Offset a) h = refl
+no-machine (Place l) h = refl
+no-machine (Run q t a) h = refl
+no-machine (Recall k) h = refl
+no-machine (Nibble b) h = refl
+no-machine Idle h = refl
+no-machine (Open k) h = refl
+no-machine (Close k) h = refl
+no-machine (Call k) h = refl
+no-machine (Copy c) h = refl
 
 -- it is counted, for its line is no V line
 module _ (l : List ℕ) (line : ℕ) (i : Instruction) (d : decode l line ≡ done i) (h : isDirect (i .block) ≡ true) where
@@ -133,7 +133,7 @@ module _ (l : List ℕ) (line : ℕ) (i : Instruction) (d : decode l line ≡ do
       let a : either (startsWith letterV l) (ltb (p .progress .blocks) 100000) ≡ true = rw v (lt-ltb (p .progress .blocks) 100000 few) in
       let b : begunOutside l (p .progress) (i .measure) ≡ begun (p .progress) (i .measure) = rw v refl in
       outside.line-running (lent numbers) t next line ls p l s n
-      ∙ outside.block-carried numbers t next line l ls p a i d (rw s (in-place (i .block) h))
+      ∙ outside.block-carried numbers t next line l ls p a i d (rw s (no-machine (i .block) h))
       ∙ ap (λ (g : Progress). carryOut (lent numbers) t next line ls (i .block) (withProgress p g)) b
       ∙ carry-out (lent numbers) t next line ls (i .block) (withProgress p (begun (p .progress) (i .measure))) h
 

@@ -1,6 +1,6 @@
 -- Laws of stretches of direct blocks outside bodies, and of blocks that are not direct.
-use mathlib.Core.Path.{_≡_, refl, sym, subst}
-use mathlib.Core.Bool.{Bool, true, false}
+use mathlib.Core.Path.{_≡_, refl, sym, ap, _∙_, subst}
+use mathlib.Core.Bool.{Bool, true, false, not}
 use mathlib.Core.List.{List, [], _∷_}
 use Prim.Native.Nat.{ℕ}
 use native.Mathlib.Omega.{arith}
@@ -9,7 +9,6 @@ use denote.Enum.Declared.{tagOf}
 use types.Run.{OneOf, miss}
 use Rattle.aries.proofs.setup.Stage as stage
 use Rattle.aries.specs.declared.block.Block.{Block}
-use Rattle.aries.specs.declared.block.Block.the-variants.{Machine, End, Read, Punch, Move, Origin, Offset, Place, Run, Recall, Nibble, Idle, Open, Close, Call, Copy}
 use Rattle.aries.specs.declared.setup.Stage.{Stage}
 use Rattle.aries.specs.declared.setup.Stage.the-variants.{Fresh, Running, Storing, Ended}
 use Rattle.aries.specs.declared.block.Instruction.{Instruction}
@@ -22,6 +21,7 @@ use Rattle.aries.specs.Program.{isMachine, inPlace}
 use Rattle.decode.proofs.CloseLines.{close-line}
 use Rattle.bodies.specs.Stretches.{ApartIn}
 use Rattle.bodies.proofs.OutsideBlocks.{still-few}
+use Rattle.bodies.proofs.Stretches.{no-machine}
 use Rattle.decode.specs.Direct.{isDirect}
 
 -- every stage but that of a program that runs
@@ -33,22 +33,11 @@ not-running s h e = miss notRunning 1 tt (subst (λ (x : Stage). OneOf notRunnin
 
 -- G92 is not direct
 machine-apart : (b : Block) → isMachine b ≡ true → isDirect b ≡ false
-machine-apart (Machine q) h = refl
-machine-apart End h = refl
-machine-apart Read h = sym h
-machine-apart (Punch a t) h = sym h
-machine-apart (Move a t) h = sym h
-machine-apart (Origin a) h = sym h
-machine-apart (Offset a) h = refl
-machine-apart (Place l) h = refl
-machine-apart (Run q t a) h = sym h
-machine-apart (Recall k) h = sym h
-machine-apart (Nibble b) h = sym h
-machine-apart Idle h = sym h
-machine-apart (Open k) h = refl
-machine-apart (Close k) h = refl
-machine-apart (Call k) h = refl
-machine-apart (Copy c) h = refl
+machine-apart b h = go (isDirect b) refl
+  where
+    go : (d : Bool) → isDirect b ≡ d → isDirect b ≡ false
+    go false e = e
+    go true e = let z : not true ≡ true = ap not (sym h) ∙ no-machine b e in let q : _≡_ {A = ℕ} 0 1 = cc in absurd (omega arith)
 
 -- a block in its place is not direct, if none is while the program runs
 pub apart-in-place : (s : Stage) (b : Block) → inPlace s b ≡ true → (s ≡ Running → isDirect b ≡ false) → isDirect b ≡ false
@@ -57,7 +46,7 @@ apart-in-place Running b h r = r refl
 apart-in-place Storing b h r = let z : _≡_ {A = ℕ} 0 1 = cc in absurd (omega arith)
 apart-in-place Ended b h r = let z : _≡_ {A = ℕ} 0 1 = cc in absurd (omega arith)
 
--- no block that may come is ordinary, if none that is counted is: a V line never is
+-- no block that may come is direct, if none that is counted is: a V line never is
 pub apart-by-line : (l : List ℕ) (line blocks : ℕ) (i : Instruction) → either (startsWith letterV l) (ltb blocks 100000) ≡ true → decode l line ≡ done i → ApartIn l line blocks → isDirect (i .block) ≡ false
 apart-by-line l line blocks i few d h = go (startsWith letterV l) refl
   where

@@ -1,4 +1,3 @@
-pub mod Advances
 pub mod Direct
 pub mod SettingUp
 pub mod StoredBodies

@@ -2,5 +2,4 @@
 pub mod Closing
 pub mod Sizes
 pub mod Within
-pub mod Advanced
 pub mod Opening

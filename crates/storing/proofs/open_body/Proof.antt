@@ -15,7 +15,7 @@ use Rattle.aries.specs.declared.setup.Program.{Program}
 use Rattle.storing.proofs.Sizes.{size-found, size-missing}
 use Rattle.storing.proofs.Within.{OneLength, storing-within, within-longer}
 use Rattle.storing.proofs.Opening.{open-unclosed, open-full, open-stored}
-use Rattle.storing.proofs.Advanced.{advanced-refused, advanced-leaving}
+use Rattle.aries.proofs.Advanced.{advanced-refused, advanced-leaving}
 use Rattle.storing.proofs.open_body.Statement.{statement}
 use Rattle.storing.proofs.open_body.Tie as tie
 

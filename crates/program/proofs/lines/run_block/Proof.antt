@@ -20,7 +20,7 @@ use Rattle.aries.specs.Moves.{withState, measuring}
 use Rattle.aries.specs.Setup.{withProgress}
 use Rattle.aries.specs.Program.{inPlace, begunOutside, carryOut}
 use Rattle.blocks.proofs.Decoded.{decoded-refused, decoded-done}
-use Rattle.program.proofs.Advances.{advanced-refused}
+use Rattle.aries.proofs.Advanced.{advanced-refused}
 use Rattle.decode.specs.Direct.{isDirect}
 use Rattle.program.proofs.Direct.{apart-in-place, apart-by-line}
 use Rattle.bodies.proofs.OutsideBlocks.{first-byte, block-spent, block-refused, block-misplaced, block-carried, still-few, begun-hits}

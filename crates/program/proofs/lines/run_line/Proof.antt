@@ -10,7 +10,7 @@ use Rattle.aries.specs.Letters.{letterV}
 use Rattle.aries.specs.Text.{lines}
 use Rattle.aries.specs.Judging.{lent}
 use Rattle.aries.specs.Setup.{atStage}
-use Rattle.program.proofs.Advances.{advanced-still}
+use Rattle.aries.proofs.Advanced.{advanced-still}
 use Rattle.bodies.proofs.OutsideBlocks.{first-byte, line-closes, line-passes, line-block}
 use borrow.Author.Needs.{needs}
 use Rattle.program.proofs.lines.run_line.Statement.{statement}

@@ -2,7 +2,7 @@
 use mathlib.Core.Path.{_≡_, refl, sym, ap, ap₂, _∙_}
 use Rattle.aries.specs.declared.machine.Machine.{Machine}
 use Rattle.aries.specs.Setup.{startAs}
-use Rattle.program.proofs.Advances.{advanced-refused, advanced-still}
+use Rattle.aries.proofs.Advanced.{advanced-refused, advanced-still}
 use Rattle.program.proofs.SettingUp.{machine-named, machine-neither}
 use borrow.Author.Needs.{needs}
 use Rattle.program.proofs.origins.set_machine.Statement.{statement}

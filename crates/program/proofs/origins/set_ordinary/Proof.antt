@@ -10,7 +10,7 @@ use Rattle.aries.specs.declared.state.Status.the-variants.{Passed}
 use Rattle.aries.specs.Judging.{near}
 use Rattle.aries.specs.Moves.{_⊕_}
 use Rattle.aries.specs.Setup.{referenceOf, withSetup, withOrigin}
-use Rattle.program.proofs.Advances.{advanced-refused, advanced-still}
+use Rattle.aries.proofs.Advanced.{advanced-refused, advanced-still}
 use Rattle.program.proofs.SettingUp.{origin-far, origin-near}
 use borrow.Author.Needs.{needs}
 use Rattle.program.proofs.origins.set_ordinary.Statement.{statement}

@@ -12,7 +12,7 @@ use Rattle.aries.specs.Macros.{mostCalls, call, carry}
 use Rattle.aries.specs.Setup.{atStage, setOrdinary, ordinaryFrame}
 use Rattle.aries.specs.Program.{carryOut}
 use Rattle.aries.specs.Runs.{Carried, Advanced}
-use Rattle.program.proofs.Advances.{advanced-refused, advanced-still, advanced-by}
+use Rattle.aries.proofs.Advanced.{advanced-refused, advanced-still, advanced-by}
 use Rattle.bodies.proofs.OutsideBlocks.{carry-out-as-in-body}
 use borrow.Author.Needs.{needs}
 use Rattle.program.proofs.outside.carry_out.Statement.{statement}
