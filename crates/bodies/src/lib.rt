@@ -15,7 +15,7 @@ ghost use mathlib.Core.Bool.{false};
 ghost use Prim.Native.Nat.{_+_, _-_, _≤_};
 ghost use lib.ListN.{length, drop};
 ghost use Rattle.aries.specs.Judging.{lent};
-ghost use Rattle.aries.specs.Macros.{Within, call, carry, runLines};
+ghost use Rattle.aries.specs.Macros.{Within, call, carry, runBlock, runLines};
 ghost use Rattle.aries.specs.Runs.{Carried};
 ghost use Rattle.aries.specs.Text.{lines};
 ghost use Rattle.decode.specs.Direct.{isDirect};
@@ -77,39 +77,6 @@ fn find_body(depth: u8, block: Block, macros: Macros) -> Called
     Called::Body(start, end, first)
 }
 
-// A block that is not direct, decoded and counted, with so many calls left to open: W, or one that is out of place.
-pub fn run_block(
-    depth: u8,
-    list: &mut [i32],
-    text: &[u8],
-    block: Block,
-    macros: Macros,
-    frame: Frame,
-    line: u64,
-    progress: Progress,
-) -> Outcome
-    requires { ⌜ (Within macros (length (now text))) × (isDirect block ≡ false) ⌝ }
-    ensures { λ r. ⌜ Carried r (now (list .entry)) (now (list .exit)) (progress .hits) (carry (lent (length (now (list .entry)))) (call (lent (length (now (list .entry)))) (now (text .entry)) macros frame depth) frame line block progress) ⌝ }
-{
-    let called = find_body(depth, block, macros);
-    match called {
-        Called::Refused(number) => Outcome::refused(number, line, progress),
-        Called::Body(start, end, first) => {
-            let opening = first_block(&text[start..end], first);
-            run_body(
-                depth - 1,
-                list,
-                text,
-                &text[start..end],
-                opening,
-                macros,
-                frame,
-                progress,
-            )
-        }
-    }
-}
-
 // What the block of a line comes to: a call with its G90 or G91, of which it has none, or a refusal with its line.
 pub enum Next {
     Call(usize, usize, u16, Measure),
@@ -151,6 +118,40 @@ fn next_opening(body: &[u8], end: usize, line: u64) -> Opening
     }
 }
 
+// The block of a line that has no direct block, with so many calls left to open: counted, decoded, and its call carried out.
+fn run_block(
+    depth: u8,
+    list: &mut [i32],
+    text: &[u8],
+    bytes: &[u8],
+    macros: Macros,
+    frame: Frame,
+    line: u64,
+    progress: Progress,
+) -> Outcome
+    requires { ⌜ (Within macros (length (now text))) × (ApartIn (now bytes) line (progress .blocks)) ⌝ }
+    ensures { λ r. ⌜ Carried r (now (list .entry)) (now (list .exit)) (progress .hits) (runBlock (lent (length (now (list .entry)))) (call (lent (length (now (list .entry)))) (now (text .entry)) macros frame depth) frame line (now (bytes .entry)) progress) ⌝ }
+{
+    let next = next_call(depth, bytes, line, macros, progress.blocks);
+    match next {
+        Next::Refused(number, place) => Outcome::refused(number, place, progress),
+        Next::Call(start, end, first, measure) => {
+            let opening = first_block(&text[start..end], first);
+            let begun = progress.begun(measure);
+            run_body(
+                depth - 1,
+                list,
+                text,
+                &text[start..end],
+                opening,
+                macros,
+                frame,
+                begun,
+            )
+        }
+    }
+}
+
 // A body from a place on where a block starts, up to the first refusal, with so many calls left to open. Its stretches of
 // direct blocks are carried out as such; a block between them is looked at by itself, since only a call needs the stored
 // bodies.
@@ -178,24 +179,7 @@ pub fn run_body(
         let at = stretch.at;
         let line = stretch.line;
         let end = text::line_end(body, at);
-        let call = next_call(depth, &body[at..end], line, macros, left.blocks);
-        let outcome = match call {
-            Next::Refused(number, place) => Outcome::refused(number, place, left),
-            Next::Call(start, stop, first, measure) => {
-                let inner = first_block(&text[start..stop], first);
-                let begun = left.begun(measure);
-                run_body(
-                    depth - 1,
-                    list,
-                    text,
-                    &text[start..stop],
-                    inner,
-                    macros,
-                    frame,
-                    begun,
-                )
-            }
-        };
+        let outcome = run_block(depth, list, text, &body[at..end], macros, frame, line, left);
         let status = outcome.status;
         if let Status::Refused(_, _) = status {
             return outcome;
@@ -204,4 +188,37 @@ pub fn run_body(
         next = next_opening(body, end, line);
     }
     Outcome::passed(now)
+}
+
+// A block that is not direct, decoded and counted, with so many calls left to open: W, or one that is out of place.
+pub fn carry_call(
+    depth: u8,
+    list: &mut [i32],
+    text: &[u8],
+    block: Block,
+    macros: Macros,
+    frame: Frame,
+    line: u64,
+    progress: Progress,
+) -> Outcome
+    requires { ⌜ (Within macros (length (now text))) × (isDirect block ≡ false) ⌝ }
+    ensures { λ r. ⌜ Carried r (now (list .entry)) (now (list .exit)) (progress .hits) (carry (lent (length (now (list .entry)))) (call (lent (length (now (list .entry)))) (now (text .entry)) macros frame depth) frame line block progress) ⌝ }
+{
+    let called = find_body(depth, block, macros);
+    match called {
+        Called::Refused(number) => Outcome::refused(number, line, progress),
+        Called::Body(start, end, first) => {
+            let opening = first_block(&text[start..end], first);
+            run_body(
+                depth - 1,
+                list,
+                text,
+                &text[start..end],
+                opening,
+                macros,
+                frame,
+                progress,
+            )
+        }
+    }
 }

@@ -92,7 +92,7 @@ pub fn carry_out(
             let macros = setup.macros;
             advanced(
                 program,
-                bodies::run_block(
+                bodies::carry_call(
                     bodies::MOST_CALLS,
                     list,
                     text,

@@ -8,8 +8,8 @@ use Rattle.aries.proofs.Carried.{carried-refused}
 use Rattle.bodies.specs.declared.Called.{Called}
 use Rattle.bodies.specs.Calls.{Comes}
 use Rattle.bodies.proofs.Running.{body-opened}
-use Rattle.bodies.proofs.run_block.Statement.{statement}
-use Rattle.bodies.proofs.run_block.Tie as tie
+use Rattle.bodies.proofs.carry_call.Statement.{statement}
+use Rattle.bodies.proofs.carry_call.Tie as tie
 
 find-body-requires : tie.Need-find-body-requires
 find-body-requires c κs = search needs
@@ -78,8 +78,8 @@ returns-2 c =
     let body = take (x .1 .0 - x .0) (drop (x .0) (a .text .now)) in
     rw (comes (c .before .before .before .before .before .before .before .before .before) _ (w .1) .1 j (a .text .now) (a .frame) (a .line) (a .progress)) (rw (sym (body-opened j (a .text .now) (a .macros) (a .depth - 1) (a .frame) body (x .1 .1 .0) (y .result) (a .progress) (y .ensures))) (c .before .run-body .ensures))
 
-pub run-block-spec : {M : Type 1} → statement M
-run-block-spec =
+pub carry-call-spec : {M : Type 1} → statement M
+carry-call-spec =
     tie.close
     (tie.spec
     find-body-requires
