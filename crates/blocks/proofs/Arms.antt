@@ -1,7 +1,7 @@
--- An arm of a match that several kinds share: what holds of each of them holds there.
+-- An arm of a match that several kinds share.
 -- Assumes nothing.
-use mathlib.Core.Path.{_≡_, refl, sym, ap, _∙_, subst}
-use mathlib.Core.List.{List, [], _∷_}
+use mathlib.Core.Path.{_≡_, refl, sym, ap, _∙_}
+use mathlib.Core.List.{List, [], _∷_, map}
 use mathlib.Core.Logic.{inl, inr}
 use Prim.Native.Nat.{ℕ}
 use lib.ListN.{getD}
@@ -12,10 +12,10 @@ use Rattle.aries.specs.declared.block.Kind.the-variants.{G26, G28, G29, G36, G3
 use Rattle.aries.proofs.block.Kind as Declared
 
 -- the place of a kind among all of them
-abbrev pub place : Kind → ℕ
+abbrev place : Kind → ℕ
 place k = tagOf Declared.the-type k
 
-abbrev pub places : List Kind → List ℕ
+abbrev places : List Kind → List ℕ
 places [] = []
 places (k ∷ ks) = place k ∷ places ks
 
@@ -49,17 +49,12 @@ at-place LetterW = refl
 at-place Unknown = refl
 
 -- kinds at one place are the same
-same : (k l : Kind) → place k ≡ place l → l ≡ k
-same k l e = sym (at-place l) ∙ ap (λ (n : ℕ). getD kinds n Unknown) (sym e) ∙ at-place k
+same : (k l : Kind) → place k ≡ place l → k ≡ l
+same k l e = sym (at-place k) ∙ ap (λ (n : ℕ). getD kinds n Unknown) e ∙ at-place l
 
--- it holds of each kind of a list
-abbrev pub Each : (Kind → Type 0) → List Kind → Type 0
-Each P [] = Unit {0}
-Each P (k ∷ ks) = P k × Each P ks
-
--- so it holds of a kind that is one of them
-pub shared : (P : Kind → Type 0) (k : Kind) (ks : List Kind) → Each P ks → OneOf (places ks) (place k) → P k
-shared P k [] ps h = absurd h
-shared P k (l ∷ []) ps h = subst P (same k l h) (ps .0)
-shared P k (l ∷ l₁ ∷ ls) ps (inl e) = subst P (same k l e) (ps .0)
-shared P k (l ∷ l₁ ∷ ls) ps (inr h) = shared P k (l₁ ∷ ls) (ps .1) h
+-- what f gives for a kind that is one of several, where it gives the same for all of them
+pub alike : {A : Type 0} (f : Kind → A) {a : A} (k : Kind) (ks : List Kind) → map f ks ≡ map (λ (l : Kind). a) ks → OneOf (places ks) (place k) → f k ≡ a
+alike f k [] e h = absurd h
+alike f k (l ∷ []) e h = cc (same k l h)
+alike f k (l ∷ l₁ ∷ ls) e (inl h) = cc (same k l h)
+alike f {a} k (l ∷ l₁ ∷ ls) e (inr h) = let rest : map f (l₁ ∷ ls) ≡ map (λ (m : Kind). a) (l₁ ∷ ls) = cc in alike f k (l₁ ∷ ls) rest h

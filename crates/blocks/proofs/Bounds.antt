@@ -1,32 +1,25 @@
 -- Laws of the ranges: numbers of clean words that pass them are small, absent ones too.
 -- Assumes nothing.
-use mathlib.Core.Path.{_≡_, refl, sym, ap, _∙_, subst}
+use mathlib.Core.Path.{_≡_, refl, sym, ap, subst}
 use mathlib.Core.Bool.{Bool, true, false, not}
 use mathlib.Core.List.{List, [], _∷_}
-use Prim.Native.Nat.{ℕ, zero, suc, _≤_, _<_}
+use Prim.Native.Nat.{ℕ, _≤_}
 use native.Mathlib.Nat.{le-trans}
 use native.Mathlib.Omega.{arith}
-use lib.Dec.{leb, lit<}
+use lib.Dec.{T, eqb, leb}
 use lib.IntN.{natAbs}
-use lib.ListN.{length, getD}
-use borrow.Author.Tests.{leb-true}
+use borrow.Author.Tests.{eqb-true, leb-true}
 use Rattle.signed.proofs.Tests.{both-left, both-right}
 use Rattle.aries.specs.declared.word.Word.{Word}
 use Rattle.aries.specs.declared.word.Words.{Words}
 use Rattle.aries.specs.declared.block.Kind.{Kind}
-use Rattle.aries.specs.declared.block.Kind.the-variants.{G26}
-use Rattle.aries.specs.Letters.{letterA, letterK, letterT}
 use Rattle.aries.specs.Test.{both, either, within, every}
 use Rattle.aries.specs.Words.{at, isPlain}
-use Rattle.aries.specs.Blocks.{Range, aboveZero, whole, signedWhole, numberFits, rangesOf, commonRanges, isRanged, count}
+use Rattle.aries.specs.Blocks.{Range, aboveZero, notNegative, whole, signedWhole, numberFits, rangesOf, commonRanges, isRanged, count}
 use Rattle.blocks.specs.Clean.{Clean, CleanWord}
 use Rattle.blocks.specs.Decoding.{passes}
 
 -- ---- One word
-
--- the test of a word, for the one that it is
-pub passed : (range : Range) {r : Bool} {u v : Word} → r ≡ passes range v → v ≡ u → r ≡ passes range u
-passed range e f = e ∙ ap (passes range) f
 
 -- a number that is absent, or within bounds by a test
 absent-or : (v : Word) (t : Bool) (least most : ℕ) → CleanWord v → either (not (v .written)) (both t (within least most (natAbs (v .value)))) ≡ true → natAbs (v .value) ≤ most
@@ -39,53 +32,52 @@ absent-or v t least most clean h = go (v .written) refl
         let inside : within least most (natAbs (v .value)) ≡ true = both-right t (within least most (natAbs (v .value))) range in
         leb-true (natAbs (v .value)) most (both-right (leb least (natAbs (v .value))) (leb (natAbs (v .value)) most) inside)
 
--- a whole number
-pub whole-bound : (v : Word) (least most : ℕ) → CleanWord v → passes (whole least most) v ≡ true → natAbs (v .value) ≤ most
-whole-bound v least most clean h = absent-or v (isPlain v) least most clean h
+-- whether a range holds whole numbers of at most so much
+abbrev upTo : ℕ → Range → Bool
+upTo cap aboveZero = false
+upTo cap notNegative = false
+upTo cap (whole least most) = leb most cap
+upTo cap (signedWhole least most) = leb most cap
 
--- one that may have a sign
-pub signed-bound : (v : Word) (least most : ℕ) → CleanWord v → passes (signedWhole least most) v ≡ true → natAbs (v .value) ≤ most
-signed-bound v least most clean h = absent-or v (not (v .pointed)) least most clean h
+-- a number that passes such a range
+small-enough : (range : Range) (v : Word) (cap : ℕ) → CleanWord v → upTo cap range ≡ true → passes range v ≡ true → natAbs (v .value) ≤ cap
+small-enough aboveZero v cap clean u h = absurd (subst T (sym u) tt)
+small-enough notNegative v cap clean u h = absurd (subst T (sym u) tt)
+small-enough (whole least most) v cap clean u h = le-trans (absent-or v (isPlain v) least most clean h) (leb-true most cap u)
+small-enough (signedWhole least most) v cap clean u h = le-trans (absent-or v (not (v .pointed)) least most clean h) (leb-true most cap u)
 
 -- a number of a clean word
-pub size-small : (w : Words) (letter n : ℕ) (v : Word) → Clean w → v ≡ at w letter → n ≡ natAbs (v .value) → n ≤ 999999
-size-small w letter n v clean e f = subst (λ (m : ℕ). m ≤ 999999) (sym (f ∙ ap (λ (u : Word). natAbs (u .value)) e)) (clean .each letter .small)
+pub size-small : {w : Words} {n : ℕ} {v : Word} (letter : ℕ) → Clean w → v ≡ at w letter → n ≡ natAbs (v .value) → n ≤ 999999
+size-small letter clean e f = rw (f, e) (clean .each letter .small)
 
 -- ---- The words of a block
 
--- one of a list of tests that all pass
-every-at : (w : Words) (es : List (ℕ × Range)) (i : ℕ) → i < length es → every (numberFits w) es ≡ true → numberFits w (getD es i (0, aboveZero)) ≡ true
-every-at w [] i h e = absurd (omega arith)
-every-at w (x ∷ es) zero h e = both-left (numberFits w x) (every (numberFits w) es) e
-every-at w (x ∷ es) (suc i) h e = every-at w es i (omega arith) (both-right (numberFits w x) (every (numberFits w) es) e)
+-- whether a table holds the number of a letter to at most so much
+abbrev pub limits : List (ℕ × Range) → ℕ → ℕ → Bool
+limits [] letter cap = false
+limits (e ∷ es) letter cap = either (both (eqb (e .0) letter) (upTo cap (e .1))) (limits es letter cap)
 
--- the numbers of a block of a kind, named
-pub ranged-as : (w : Words) {k l : Kind} → k ≡ l → isRanged w k ≡ true → isRanged w l ≡ true
-ranged-as w e h = subst (λ (k : Kind). isRanged w k ≡ true) e h
+-- where all numbers of the table fit, that one does
+limited : (w : Words) (es : List (ℕ × Range)) (letter cap : ℕ) → Clean w → limits es letter cap ≡ true → every (numberFits w) es ≡ true → count w letter ≤ cap
+limited w [] letter cap clean l h = absurd (subst T (sym l) tt)
+limited w (e ∷ es) letter cap clean l h = go (both (eqb (e .0) letter) (upTo cap (e .1))) refl l (λ m. limited w es letter cap clean m (both-right (numberFits w e) (every (numberFits w) es) h))
+  where
+    go :
+        (here : Bool) → both (eqb (e .0) letter) (upTo cap (e .1)) ≡ here → either here (limits es letter cap) ≡ true
+        → (limits es letter cap ≡ true → count w letter ≤ cap)
+        → count w letter ≤ cap
+    go true b m later =
+        let first = small-enough (e .1) (at w (e .0)) cap (clean .each (e .0)) (both-right (eqb (e .0) letter) (upTo cap (e .1)) b) (both-left (numberFits w e) (every (numberFits w) es) h) in
+        subst (λ (n : ℕ). count w n ≤ cap) (eqb-true (e .0) letter (both-left (eqb (e .0) letter) (upTo cap (e .1)) b)) first
+    go false b m later = later m
 
 module _ (w : Words) (k : Kind) (clean : Clean w) (ranged : isRanged w k ≡ true) where
-  -- the tests of the kind's own letters and those of the common ones
-  kind-ranges : every (numberFits w) (rangesOf k) ≡ true
+  -- a number that is limited by the table of the kind that it is
+  pub own-limit : {l : Kind} → k ≡ l → (letter cap : ℕ) → limits (rangesOf l) letter cap ≡ true → count w letter ≤ cap
   unfolding isRanged
-  kind-ranges = both-left (every (numberFits w) (rangesOf k)) (every (numberFits w) commonRanges) ranged
+  own-limit e letter cap l = limited w (rangesOf k) letter cap clean (rw e l) (both-left (every (numberFits w) (rangesOf k)) (every (numberFits w) commonRanges) ranged)
 
-  common-ranges : every (numberFits w) commonRanges ≡ true
+  -- one that is limited wherever it stands
+  pub common-limit : (letter cap : ℕ) → limits commonRanges letter cap ≡ true → count w letter ≤ cap
   unfolding isRanged
-  common-ranges = both-right (every (numberFits w) (rangesOf k)) (every (numberFits w) commonRanges) ranged
-
-  -- the i-th letter of a kind, where it is a whole number of at most so much
-  pub kind-bound : (i letter least most : ℕ) → i < length (rangesOf k) → getD (rangesOf k) i (0, aboveZero) ≡ (letter, whole least most) → (cap : ℕ) → most ≤ cap → count w letter ≤ cap
-  kind-bound i letter least most h e cap m =
-      let fits : numberFits w (letter, whole least most) ≡ true = ap (numberFits w) (sym e) ∙ every-at w (rangesOf k) i h kind-ranges in
-      le-trans (whole-bound (at w letter) least most (clean .each letter) fits) m
-
-  -- T and A, wherever they stand
-  pub tool-bound : (cap : ℕ) → 99 ≤ cap → count w letterT ≤ cap
-  tool-bound cap m = le-trans (whole-bound (at w letterT) 1 99 (clean .each letterT) (every-at w commonRanges 1 (lit< tt) common-ranges)) m
-
-  pub memory-bound : (cap : ℕ) → 5 ≤ cap → count w letterA ≤ cap
-  memory-bound cap m = le-trans (whole-bound (at w letterA) 1 5 (clean .each letterA) (every-at w commonRanges 2 (lit< tt) common-ranges)) m
-
--- K of G26, which may have a sign
-pub circle-bound : (w : Words) → Clean w → isRanged w G26 ≡ true → count w letterK ≤ 999
-circle-bound w clean ranged = signed-bound (at w letterK) 1 999 (clean .each letterK) (every-at w (rangesOf G26) 1 (lit< tt) (kind-ranges w G26 clean ranged))
+  common-limit letter cap l = limited w commonRanges letter cap clean l (both-right (every (numberFits w) (rangesOf k)) (every (numberFits w) commonRanges) ranged)

@@ -3,6 +3,5 @@ pub mod Bounds
 pub mod Clean
 pub mod Decode
 pub mod Alone
-pub mod Listing
 pub mod Tests
 pub mod Decoded

@@ -2,10 +2,11 @@
 -- Assumes nothing.
 use mathlib.Core.Path.{_≡_, refl, sym, _∙_}
 use mathlib.Core.Bool.{Bool, true, false}
+use mathlib.Core.List.{List, [], _∷_}
+use Prim.Native.Nat.{ℕ}
+use lib.Dec.{eqb}
 use Rattle.signed.proofs.Tests.{both-idr}
-use Rattle.aries.specs.Test.{both, either}
-
--- ---- both and either
+use Rattle.aries.specs.Test.{both, either, among, every}
 
 both-assoc : (a b c : Bool) → both (both a b) c ≡ both a (both b c)
 both-assoc true b c = refl
@@ -19,26 +20,34 @@ either-idr : (a : Bool) → either a false ≡ a
 either-idr true = refl
 either-idr false = refl
 
--- ---- Tests made one after the other, against a list of them
+-- ---- Tests made one after the other, as code makes them, against a list of them
 
-pub one-test : {a p : Bool} → a ≡ p → a ≡ both p true
-one-test {a} {p} e = e ∙ sym (both-idr p)
+-- all pass
+abbrev passAfter : {A : Type 0} → (A → Bool) → Bool → List A → Bool
+passAfter f b [] = b
+passAfter f b (a ∷ rest) = passAfter f (both b (f a)) rest
 
-pub two-tests : {a b p q : Bool} → a ≡ p → b ≡ q → both a b ≡ both p (both q true)
-two-tests {a} {b} {p} {q} e f = simp (e, f, both-idr)
+abbrev passAll : {A : Type 0} → (A → Bool) → List A → Bool
+passAll f [] = true
+passAll f (a ∷ rest) = passAfter f (f a) rest
 
-pub three-tests : {a b c p q r : Bool} → a ≡ p → b ≡ q → c ≡ r → both (both a b) c ≡ both p (both q (both r true))
-three-tests {a} {b} {c} {p} {q} {r} e f g = simp (e, f, g, both-assoc, both-idr)
+pass-after : {A : Type 0} (f : A → Bool) (b : Bool) (rest : List A) → passAfter f b rest ≡ both b (every f rest)
+pass-after f b [] = sym (both-idr b)
+pass-after f b (a ∷ rest) = pass-after f (both b (f a)) rest ∙ both-assoc b (f a) (every f rest)
 
-pub seven-tests : {a b c d e f g p q r s t u v : Bool} → a ≡ p → b ≡ q → c ≡ r → d ≡ s → e ≡ t → f ≡ u → g ≡ v →
-    both (both (both (both (both (both a b) c) d) e) f) g ≡ both p (both q (both r (both s (both t (both u (both v true))))))
-seven-tests {a} {b} {c} {d} {e} {f} {g} {p} {q} {r} {s} {t} {u} {v} h₁ h₂ h₃ h₄ h₅ h₆ h₇ =
-    simp (h₁, h₂, h₃, h₄, h₅, h₆, h₇, both-assoc, both-idr)
+pub pass-all : {A : Type 0} (f : A → Bool) (rest : List A) → passAll f rest ≡ every f rest
+pass-all f [] = refl
+pass-all f (a ∷ rest) = pass-after f (f a) rest
+
+-- one does: a number is among those of a list
+abbrev isAfter : ℕ → Bool → List ℕ → Bool
+isAfter n b [] = b
+isAfter n b (a ∷ rest) = isAfter n (either b (eqb n a)) rest
+
+pub is-after : (n : ℕ) (b : Bool) (rest : List ℕ) → isAfter n b rest ≡ either b (among rest n)
+is-after n b [] = sym (either-idr b)
+is-after n b (a ∷ rest) = is-after n (either b (eqb n a)) rest ∙ either-assoc b (eqb n a) (among rest n)
 
 -- a first test, and three more with what they come to
 pub after-one : (a : Bool) {b c d q r s : Bool} → b ≡ q → c ≡ r → d ≡ s → both (both (both a b) c) d ≡ both a (both q (both r s))
 after-one a {b} {c} {d} {q} {r} {s} f g h = simp (f, g, h, both-assoc)
-
--- six tests of which one passes
-pub either-six : (a b c d e f : Bool) → either (either (either (either (either a b) c) d) e) f ≡ either a (either b (either c (either d (either e (either f false)))))
-either-six a b c d e f = simp (either-assoc, either-idr)

@@ -33,29 +33,17 @@ by-ranges c =
     let s = c .before .before .before .before in
     c .is-ranged .ensures ∙ same-ranges (by-letter s) noTally (s .args .tally) (c .before .before .before .kind-of .result)
 
-kind-of-requires : tie.Need-kind-of-requires
-kind-of-requires c κs = search needs
-
-is-listed-requires : tie.Need-is-listed-requires
-is-listed-requires c κs = search needs
-
 returns : tie.Need-returns
 returns c line =
     let k = c .before .before .kind-of in
     not-listed (all-words (c .before .before .before)) line (k .result) (k .ensures)
     (sym (c .before .is-listed .ensures) ∙ not-true (c .before .is-listed .result) (c .if1 .taken))
 
-is-ranged-requires : tie.Need-is-ranged-requires
-is-ranged-requires c κs = search needs
-
 returns-2 : tie.Need-returns-2
 returns-2 c line =
     let k = c .before .before .before .before .kind-of in
     not-ranged (all-words (c .before .before .before .before .before)) line (k .result) (k .ensures) (listed (c .before .before))
     (sym (by-ranges (c .before)) ∙ not-true (c .before .is-ranged .result) (c .if2 .taken))
-
-measure-of-requires : tie.Need-measure-of-requires
-measure-of-requires c κs = search needs
 
 returns-3 : tie.Need-returns-3
 returns-3 c =
@@ -77,10 +65,9 @@ pub judge-spec : {M : Type 1} → statement M
 judge-spec =
     tie.close
     (tie.spec
-    kind-of-requires
-    is-listed-requires
+    (search needs) (search needs)
     returns
-    is-ranged-requires
+    (search needs)
     returns-2
-    measure-of-requires
+    (search needs)
     returns-3)

@@ -36,18 +36,6 @@ Inv-loop text buffer₀ line₀ n₀ i₀ buffer line n i =
 abbrev μ-loop : tie.MeasureT-loop
 μ-loop text buffer₀ line₀ n₀ i₀ buffer line n i = length text - i
 
-loop-holds : tie.Need-loop-holds Inv-loop μ-loop
-loop-holds c = search needs
-
-shared-slice-read-b : tie.Need-shared-slice-read-b Inv-loop μ-loop
-shared-slice-read-b c = search needs
-
-is-allowed-requires : tie.Need-is-allowed-requires Inv-loop μ-loop
-is-allowed-requires c κs = search needs
-
-same-length : tie.Need-same-length Inv-loop μ-loop
-same-length c = search needs
-
 -- at a stray byte
 returns : tie.Need-returns Inv-loop μ-loop
 returns c =
@@ -57,21 +45,6 @@ returns c =
     (sym (w .inv .4)
     ∙ stray-here t (w .line) (w .i) (search needs)
     (sym (c .before .is-allowed .ensures) ∙ not-true (c .before .is-allowed .result) (c .if1 .taken)))
-
-slice-write-buffer : tie.Need-slice-write-buffer Inv-loop μ-loop
-slice-write-buffer c = search needs
-
-add-n : tie.Need-add-n Inv-loop μ-loop
-add-n c = search needs
-
-add-line : tie.Need-add-line Inv-loop μ-loop
-add-line c = search needs
-
-add-i : tie.Need-add-i Inv-loop μ-loop
-add-i c = search needs
-
-loop-less : tie.Need-loop-less Inv-loop μ-loop
-loop-less c = search needs
 
 -- one byte more: what is kept of it, and the line it leads to
 loop-again : tie.Need-loop-again Inv-loop μ-loop
@@ -97,9 +70,6 @@ loop-again c =
           (c .before .if2 .came),
     )
 
-same-length-2 : tie.Need-same-length-2 Inv-loop μ-loop
-same-length-2 c = search needs
-
 returns-2 : tie.Need-returns-2 Inv-loop μ-loop
 returns-2 c =
     let w = c .before .loop in
@@ -115,16 +85,9 @@ clean-spec =
     (tie.spec
     Inv-loop
     μ-loop
-    loop-holds
-    shared-slice-read-b
-    is-allowed-requires
-    same-length
+    (λ c. search needs) (λ c. search needs) (λ c κs. search needs) (λ c. search needs)
     returns
-    slice-write-buffer
-    add-n
-    add-line
-    add-i
-    loop-less
+    (λ c. search needs) (λ c. search needs) (λ c. search needs) (λ c. search needs) (λ c. search needs)
     loop-again
-    same-length-2
+    (λ c. search needs)
     returns-2)

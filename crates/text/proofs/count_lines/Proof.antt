@@ -1,6 +1,6 @@
 -- The invariant: the lines counted and those from here on are all.
-use mathlib.Core.Path.{_≡_, refl, ap}
-use Prim.Native.Nat.{ℕ, _+_, _-_, _<_, _≤_}
+use mathlib.Core.Path.{_≡_, ap}
+use Prim.Native.Nat.{ℕ, _+_, _-_, _≤_}
 use native.Mathlib.Omega.{arith}
 use lib.ListN.{length, drop}
 use borrow.Author.Needs.{needs}
@@ -18,12 +18,6 @@ abbrev μ-loop : tie.MeasureT-loop
 loop-holds : tie.Need-loop-holds Inv-loop μ-loop
 loop-holds c = (omega arith, omega arith)
 
-line-end-requires : tie.Need-line-end-requires Inv-loop μ-loop
-line-end-requires c κs = search needs
-
-add-at : tie.Need-add-at Inv-loop μ-loop
-add-at c = search needs
-
 -- the count after this line, from the place past it
 counted :
     (c : tie.After-line-end Inv-loop μ-loop)
@@ -40,9 +34,6 @@ add-count c =
     let t = c .before .before .before .before .args .text .now in
     omega (arith, counted c, count-small t, c .before .before .loop .inv .1, c .before .before .before .before .good .0)
 
-loop-less : tie.Need-loop-less Inv-loop μ-loop
-loop-less c = search needs
-
 loop-again : tie.Need-loop-again Inv-loop μ-loop
 loop-again c = (omega arith, omega (arith, counted c, c .before .before .loop .inv .1))
 
@@ -58,9 +49,8 @@ count-lines-spec =
     Inv-loop
     μ-loop
     loop-holds
-    line-end-requires
-    add-at
+    (λ c κs. search needs) (λ c. search needs)
     add-count
-    loop-less
+    (λ c. search needs)
     loop-again
     returns)

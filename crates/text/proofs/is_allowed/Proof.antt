@@ -32,12 +32,6 @@ returns c =
     let e : answer b ≡ false = simp (lt-ltb 127 b (c .if1 .taken)) in
     sym e ∙ same-values answer isAllowed 256 answers-right b (search needs)
 
-cast-result : tie.Need-cast-result
-cast-result c = search needs
-
-shr-result : tie.Need-shr-result
-shr-result c = search needs
-
 returns-2 : tie.Need-returns-2
 returns-2 c =
     let b = c .before .before .before .args .b in
@@ -50,4 +44,4 @@ returns-2 c =
     ap (λ (n : ℕ). bit n b) half ∙ sym e ∙ same-values answer isAllowed 256 answers-right b (search needs)
 
 pub is-allowed-spec : {M : Type 1} → statement M
-is-allowed-spec = tie.close (tie.spec returns cast-result shr-result returns-2)
+is-allowed-spec = tie.close (tie.spec returns (λ c. search needs) (λ c. search needs) returns-2)

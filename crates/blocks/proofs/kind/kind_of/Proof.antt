@@ -4,12 +4,6 @@ use Rattle.aries.specs.Blocks.{kindOf}
 use Rattle.blocks.proofs.kind.kind_of.Statement.{statement}
 use Rattle.blocks.proofs.kind.kind_of.Tie as tie
 
-coded-kind-requires : tie.Need-coded-kind-requires
-coded-kind-requires c κs = search needs
-
-plain-kind-requires : tie.Need-plain-kind-requires
-plain-kind-requires c κs = search needs
-
 returns : tie.Need-returns
 unfolding kindOf
 returns c = simp (c .coded-kind .ensures, c .before .if1 .taken)
@@ -19,4 +13,4 @@ unfolding kindOf
 returns-2 c = simp (c .plain-kind .ensures, c .before .if1 .left)
 
 pub kind-of-spec : {M : Type 1} → statement M
-kind-of-spec = tie.close (tie.spec coded-kind-requires plain-kind-requires returns returns-2)
+kind-of-spec = tie.close (tie.spec (search needs) (search needs) returns returns-2)

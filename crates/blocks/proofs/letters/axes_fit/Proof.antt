@@ -1,16 +1,14 @@
--- The axes are counted, and T where it may stand (`Listing`). Assumes nothing.
+-- The axes are counted, and T where it may stand. Assumes nothing.
 use mathlib.Core.Path.{_≡_, _∙_}
-use mathlib.Core.List.{[], _∷_}
 use mathlib.Core.Logic.{⊎-elim}
+use native.Mathlib.Nat.{add-assoc, add-zero}
 use native.Mathlib.Omega.{arith}
 use borrow.Author.Needs.{needs}
 use Rattle.aries.specs.declared.word.Words.{Words}
 use Rattle.words.specs.Keeping.{wordsWith}
-use Rattle.aries.specs.Letters.{letterX, letterY}
 use Rattle.aries.specs.Test.{pick}
 use Rattle.aries.specs.Text.{bytes}
 use Rattle.aries.specs.Blocks.{present}
-use Rattle.blocks.proofs.Listing.{one-counted}
 use Rattle.blocks.proofs.letters.axes_fit.Statement.{statement}
 use Rattle.blocks.proofs.letters.axes_fit.Tie as tie
 
@@ -23,20 +21,12 @@ free : (c : tie.Joined1) → c .if1 .may ≡ present (all-words (c .before .befo
 unfolding bytes
 free c = ⊎-elim (λ u. simp (u .0 .taken) (u .1 ∙ c .before .one .ensures .0)) (λ u. simp (u .0 .left) (u .1)) (c .if1 .came)
 
-two-requires : tie.Need-two-requires
-two-requires c κs = search needs
-
-one-requires : tie.Need-one-requires
-one-requires c κs = search needs
-
 add-result : tie.Need-add-result
 add-result c = ⊎-elim (λ u. omega arith) (λ u. omega arith) (c .before .if1 .came)
 
 returns : tie.Need-returns
 unfolding bytes
-returns c =
-    let s = c .before .before .before .before .before in
-    one-counted (all-words s) letterX (letterY ∷ []) (bytes (pick (s .args .tool) "T" "")) (c .before .before .before .before .two .ensures .0) (free (c .before .before))
+returns c = simp (c .before .before .before .before .two .ensures .0, free (c .before .before), add-assoc, add-zero)
 
 pub axes-fit-spec : {M : Type 1} → statement M
-axes-fit-spec = tie.close (tie.spec two-requires one-requires add-result returns)
+axes-fit-spec = tie.close (tie.spec (search needs) (search needs) add-result returns)

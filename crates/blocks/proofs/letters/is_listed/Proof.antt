@@ -9,15 +9,6 @@ use Rattle.blocks.proofs.Tests.{after-one}
 use Rattle.blocks.proofs.letters.is_listed.Statement.{statement}
 use Rattle.blocks.proofs.letters.is_listed.Tie as tie
 
-kind-fits-requires : tie.Need-kind-fits-requires
-kind-fits-requires c κs = search needs
-
-beside-fits-requires : tie.Need-beside-fits-requires
-beside-fits-requires c κs = search needs
-
-form-fits-requires : tie.Need-form-fits-requires
-form-fits-requires c κs = search needs
-
 returns : tie.Need-returns
 unfolding isListed
 returns c =
@@ -30,4 +21,4 @@ returns c =
 
 pub is-listed-spec : {M : Type 1} → statement M
 is-listed-spec =
-    tie.close (tie.spec kind-fits-requires beside-fits-requires form-fits-requires returns)
+    tie.close (tie.spec (search needs) (search needs) (search needs) returns)

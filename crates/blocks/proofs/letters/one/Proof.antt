@@ -5,9 +5,6 @@ use borrow.Author.Needs.{needs}
 use Rattle.blocks.proofs.letters.one.Statement.{statement}
 use Rattle.blocks.proofs.letters.one.Tie as tie
 
-has-requires : tie.Need-has-requires
-has-requires c κs = search needs
-
 returns : tie.Need-returns
 returns c = (simp (sym (c .before .has .ensures) ∙ c .if1 .taken), omega arith)
 
@@ -15,4 +12,4 @@ returns-2 : tie.Need-returns-2
 returns-2 c = (simp (sym (c .before .has .ensures) ∙ c .if1 .left), omega arith)
 
 pub one-spec : {M : Type 1} → statement M
-one-spec = tie.close (tie.spec has-requires returns returns-2)
+one-spec = tie.close (tie.spec (search needs) returns returns-2)

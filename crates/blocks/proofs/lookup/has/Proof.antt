@@ -5,11 +5,8 @@ use Rattle.aries.specs.declared.word.Word.{Word}
 use Rattle.blocks.proofs.lookup.has.Statement.{statement}
 use Rattle.blocks.proofs.lookup.has.Tie as tie
 
-word-at-requires : tie.Need-word-at-requires
-word-at-requires c κs = search needs
-
 returns : tie.Need-returns
 returns c = ap (λ (v : Word). v .written) (c .word-at .ensures)
 
 pub has-spec : {M : Type 1} → statement M
-has-spec = tie.close (tie.spec word-at-requires returns)
+has-spec = tie.close (tie.spec (search needs) returns)

@@ -8,9 +8,6 @@ use borrow.Author.Needs.{needs}
 use Rattle.blocks.proofs.lookup.is_negative.Statement.{statement}
 use Rattle.blocks.proofs.lookup.is_negative.Tie as tie
 
-is-negative-requires : tie.Need-is-negative-requires
-is-negative-requires c κs = search needs
-
 value-back : (c : tie.After-is-negative) → toZ w32 (ofZ w32 (c .before .before .args .v .value)) ≡ c .before .before .args .v .value
 value-back c = search needs
 
@@ -18,4 +15,4 @@ returns : tie.Need-returns
 returns c = c .is-negative .ensures ∙ ap (λ (z : ℤ). ltZ z (pos 0)) (value-back c)
 
 pub is-negative-spec : {M : Type 1} → statement M
-is-negative-spec = tie.close (tie.spec is-negative-requires returns)
+is-negative-spec = tie.close (tie.spec (search needs) returns)

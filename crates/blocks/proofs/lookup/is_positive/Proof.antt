@@ -8,9 +8,6 @@ use borrow.Author.Needs.{needs}
 use Rattle.blocks.proofs.lookup.is_positive.Statement.{statement}
 use Rattle.blocks.proofs.lookup.is_positive.Tie as tie
 
-is-positive-requires : tie.Need-is-positive-requires
-is-positive-requires c κs = search needs
-
 value-back : (c : tie.After-is-positive) → toZ w32 (ofZ w32 (c .before .before .args .v .value)) ≡ c .before .before .args .v .value
 value-back c = search needs
 
@@ -18,4 +15,4 @@ returns : tie.Need-returns
 returns c = c .is-positive .ensures ∙ ap (ltZ (pos 0)) (value-back c)
 
 pub is-positive-spec : {M : Type 1} → statement M
-is-positive-spec = tie.close (tie.spec is-positive-requires returns)
+is-positive-spec = tie.close (tie.spec (search needs) returns)

@@ -7,9 +7,6 @@ use borrow.Author.Needs.{needs}
 use Rattle.blocks.proofs.lookup.size_of.Statement.{statement}
 use Rattle.blocks.proofs.lookup.size_of.Tie as tie
 
-size-requires : tie.Need-size-requires
-size-requires c κs = search needs
-
 value-back : (c : tie.After-size) → toZ w32 (ofZ w32 (c .before .before .args .v .value)) ≡ c .before .before .args .v .value
 value-back c = search needs
 
@@ -17,4 +14,4 @@ returns : tie.Need-returns
 returns c = c .size .ensures ∙ ap natAbs (value-back c)
 
 pub size-of-spec : {M : Type 1} → statement M
-size-of-spec = tie.close (tie.spec size-requires returns)
+size-of-spec = tie.close (tie.spec (search needs) returns)

@@ -11,24 +11,6 @@ use Rattle.words.proofs.Keeping.{letters-at}
 use Rattle.blocks.proofs.lookup.word_at.Statement.{statement}
 use Rattle.blocks.proofs.lookup.word_at.Tie as tie
 
-sub-i : tie.Need-sub-i
-sub-i c = search needs
-
-cast-i : tie.Need-cast-i
-cast-i c = search needs
-
-element-copy-out-form : tie.Need-element-copy-out-form
-element-copy-out-form c = search needs
-
-mul-number : tie.Need-mul-number
-mul-number c = search needs
-
-element-copy-out-number : tie.Need-element-copy-out-number
-element-copy-out-number c = search needs
-
-word-in-requires : tie.Need-word-in-requires
-word-in-requires c κs = search needs
-
 returns : tie.Need-returns
 returns c =
     let a = c .before .before .before .args in
@@ -41,10 +23,5 @@ pub word-at-spec : {M : Type 1} → statement M
 word-at-spec =
     tie.close
     (tie.spec
-    sub-i
-    cast-i
-    element-copy-out-form
-    mul-number
-    element-copy-out-number
-    word-in-requires
+    (search needs) (search needs) (search needs) (search needs) (search needs) (search needs)
     returns)

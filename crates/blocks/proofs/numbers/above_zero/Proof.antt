@@ -6,11 +6,8 @@ use Rattle.aries.specs.Test.{either}
 use Rattle.blocks.proofs.numbers.above_zero.Statement.{statement}
 use Rattle.blocks.proofs.numbers.above_zero.Tie as tie
 
-is-positive-requires : tie.Need-is-positive-requires
-is-positive-requires c κs = search needs
-
 returns : tie.Need-returns
 returns c = ap (either (not (c .before .before .args .v .written))) (c .is-positive .ensures)
 
 pub above-zero-spec : {M : Type 1} → statement M
-above-zero-spec = tie.close (tie.spec is-positive-requires returns)
+above-zero-spec = tie.close (tie.spec (search needs) returns)

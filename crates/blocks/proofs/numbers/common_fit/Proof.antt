@@ -1,43 +1,24 @@
 -- Three letters, one after the other. Assumes nothing.
 use borrow.Author.Needs.{needs}
-use Rattle.aries.specs.Blocks.{whole}
-use Rattle.blocks.proofs.Bounds.{passed}
-use Rattle.blocks.proofs.Tests.{three-tests}
+use Rattle.aries.specs.Blocks.{numberFits, commonRanges}
+use Rattle.words.specs.Keeping.{wordsOf}
+use Rattle.blocks.proofs.Tests.{pass-all}
 use Rattle.blocks.proofs.numbers.common_fit.Statement.{statement}
 use Rattle.blocks.proofs.numbers.common_fit.Tie as tie
 
-word-at-requires : tie.Need-word-at-requires
-word-at-requires c κs = search needs
-
-whole-requires : tie.Need-whole-requires
-whole-requires c κs = search needs
-
-word-at-requires-2 : tie.Need-word-at-requires-2
-word-at-requires-2 c κs = search needs
-
-whole-requires-2 : tie.Need-whole-requires-2
-whole-requires-2 c κs = search needs
-
-word-at-requires-3 : tie.Need-word-at-requires-3
-word-at-requires-3 c κs = search needs
-
-whole-requires-3 : tie.Need-whole-requires-3
-whole-requires-3 c κs = search needs
-
 returns : tie.Need-returns
-returns c = three-tests
-    (passed (whole 0 9999) (c .before .before .before .before .whole .ensures) (c .before .before .before .before .before .word-at .ensures))
-    (passed (whole 1 99) (c .before .before .whole2 .ensures) (c .before .before .before .word-at2 .ensures))
-    (passed (whole 1 5) (c .whole3 .ensures) (c .before .word-at3 .ensures))
+returns c =
+    let t = c .before .before in
+    let n = t .before .before in
+    let a = n .before .before .args in
+    simp (n .whole .ensures, n .before .word-at .ensures, t .whole2 .ensures, t .before .word-at2 .ensures, c .whole3 .ensures, c .before .word-at3 .ensures)
+    (pass-all (numberFits (wordsOf (a .forms .now) (a .numbers .now))) commonRanges)
 
 pub common-fit-spec : {M : Type 1} → statement M
 common-fit-spec =
     tie.close
     (tie.spec
-    word-at-requires
-    whole-requires
-    word-at-requires-2
-    whole-requires-2
-    word-at-requires-3
-    whole-requires-3
+    (search needs) (search needs)
+    (search needs) (search needs)
+    (search needs) (search needs)
     returns)

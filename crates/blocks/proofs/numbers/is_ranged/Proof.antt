@@ -4,15 +4,9 @@ use Rattle.aries.specs.Blocks.{isRanged}
 use Rattle.blocks.proofs.numbers.is_ranged.Statement.{statement}
 use Rattle.blocks.proofs.numbers.is_ranged.Tie as tie
 
-ranges-fit-requires : tie.Need-ranges-fit-requires
-ranges-fit-requires c κs = search needs
-
-common-fit-requires : tie.Need-common-fit-requires
-common-fit-requires c κs = search needs
-
 returns : tie.Need-returns
 unfolding isRanged
 returns c = simp (c .before .ranges-fit .ensures, c .common-fit .ensures)
 
 pub is-ranged-spec : {M : Type 1} → statement M
-is-ranged-spec = tie.close (tie.spec ranges-fit-requires common-fit-requires returns)
+is-ranged-spec = tie.close (tie.spec (search needs) (search needs) returns)

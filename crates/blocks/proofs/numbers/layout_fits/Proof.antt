@@ -1,79 +1,34 @@
 -- Seven letters, one after the other. Assumes nothing.
 use borrow.Author.Needs.{needs}
-use Rattle.aries.specs.Blocks.{notNegative, whole}
-use Rattle.blocks.proofs.Bounds.{passed}
-use Rattle.blocks.proofs.Tests.{seven-tests}
+use Rattle.aries.specs.declared.block.Kind.the-variants.{G98}
+use Rattle.aries.specs.Blocks.{numberFits, rangesOf}
+use Rattle.words.specs.Keeping.{wordsOf}
+use Rattle.blocks.proofs.Tests.{pass-all}
 use Rattle.blocks.proofs.numbers.layout_fits.Statement.{statement}
 use Rattle.blocks.proofs.numbers.layout_fits.Tie as tie
 
-word-at-requires : tie.Need-word-at-requires
-word-at-requires c κs = search needs
-
-not-negative-requires : tie.Need-not-negative-requires
-not-negative-requires c κs = search needs
-
-word-at-requires-2 : tie.Need-word-at-requires-2
-word-at-requires-2 c κs = search needs
-
-not-negative-requires-2 : tie.Need-not-negative-requires-2
-not-negative-requires-2 c κs = search needs
-
-word-at-requires-3 : tie.Need-word-at-requires-3
-word-at-requires-3 c κs = search needs
-
-not-negative-requires-3 : tie.Need-not-negative-requires-3
-not-negative-requires-3 c κs = search needs
-
-word-at-requires-4 : tie.Need-word-at-requires-4
-word-at-requires-4 c κs = search needs
-
-not-negative-requires-4 : tie.Need-not-negative-requires-4
-not-negative-requires-4 c κs = search needs
-
-word-at-requires-5 : tie.Need-word-at-requires-5
-word-at-requires-5 c κs = search needs
-
-not-negative-requires-5 : tie.Need-not-negative-requires-5
-not-negative-requires-5 c κs = search needs
-
-word-at-requires-6 : tie.Need-word-at-requires-6
-word-at-requires-6 c κs = search needs
-
-whole-requires : tie.Need-whole-requires
-whole-requires c κs = search needs
-
-word-at-requires-7 : tie.Need-word-at-requires-7
-word-at-requires-7 c κs = search needs
-
-whole-requires-2 : tie.Need-whole-requires-2
-whole-requires-2 c κs = search needs
-
 returns : tie.Need-returns
-returns c = seven-tests
-    (passed notNegative (c .before .before .before .before .before .before .before .before .before .before .before .before .not-negative .ensures) (c .before .before .before .before .before .before .before .before .before .before .before .before .before .word-at .ensures))
-    (passed notNegative (c .before .before .before .before .before .before .before .before .before .before .not-negative2 .ensures) (c .before .before .before .before .before .before .before .before .before .before .before .word-at2 .ensures))
-    (passed notNegative (c .before .before .before .before .before .before .before .before .not-negative3 .ensures) (c .before .before .before .before .before .before .before .before .before .word-at3 .ensures))
-    (passed notNegative (c .before .before .before .before .before .before .not-negative4 .ensures) (c .before .before .before .before .before .before .before .word-at4 .ensures))
-    (passed notNegative (c .before .before .before .before .not-negative5 .ensures) (c .before .before .before .before .before .word-at5 .ensures))
-    (passed (whole 0 99) (c .before .before .whole .ensures) (c .before .before .before .word-at6 .ensures))
-    (passed (whole 0 99) (c .whole2 .ensures) (c .before .word-at7 .ensures))
+returns c =
+    let k = c in
+    let p = k .before .before in
+    let d = p .before .before in
+    let j = d .before .before in
+    let i = j .before .before in
+    let y = i .before .before in
+    let x = y .before .before in
+    let a = x .before .before .args in
+    simp (x .not-negative .ensures, x .before .word-at .ensures, y .not-negative2 .ensures, y .before .word-at2 .ensures, i .not-negative3 .ensures, i .before .word-at3 .ensures, j .not-negative4 .ensures, j .before .word-at4 .ensures, d .not-negative5 .ensures, d .before .word-at5 .ensures, p .whole .ensures, p .before .word-at6 .ensures, k .whole2 .ensures, k .before .word-at7 .ensures)
+    (pass-all (numberFits (wordsOf (a .forms .now) (a .numbers .now))) (rangesOf G98))
 
 pub layout-fits-spec : {M : Type 1} → statement M
 layout-fits-spec =
     tie.close
     (tie.spec
-    word-at-requires
-    not-negative-requires
-    word-at-requires-2
-    not-negative-requires-2
-    word-at-requires-3
-    not-negative-requires-3
-    word-at-requires-4
-    not-negative-requires-4
-    word-at-requires-5
-    not-negative-requires-5
-    word-at-requires-6
-    whole-requires
-    word-at-requires-7
-    whole-requires-2
+    (search needs) (search needs)
+    (search needs) (search needs)
+    (search needs) (search needs)
+    (search needs) (search needs)
+    (search needs) (search needs)
+    (search needs) (search needs)
+    (search needs) (search needs)
     returns)

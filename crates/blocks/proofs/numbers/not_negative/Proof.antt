@@ -6,11 +6,8 @@ use Rattle.aries.specs.Test.{either}
 use Rattle.blocks.proofs.numbers.not_negative.Statement.{statement}
 use Rattle.blocks.proofs.numbers.not_negative.Tie as tie
 
-is-negative-requires : tie.Need-is-negative-requires
-is-negative-requires c κs = search needs
-
 returns : tie.Need-returns
 returns c = ap (λ (t : Bool). either (not (c .before .before .args .v .written)) (not t)) (c .is-negative .ensures)
 
 pub not-negative-spec : {M : Type 1} → statement M
-not-negative-spec = tie.close (tie.spec is-negative-requires returns)
+not-negative-spec = tie.close (tie.spec (search needs) returns)

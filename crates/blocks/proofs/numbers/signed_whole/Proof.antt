@@ -3,14 +3,8 @@ use borrow.Author.Needs.{needs}
 use Rattle.blocks.proofs.numbers.signed_whole.Statement.{statement}
 use Rattle.blocks.proofs.numbers.signed_whole.Tie as tie
 
-size-of-requires : tie.Need-size-of-requires
-size-of-requires c κs = search needs
-
-within-requires : tie.Need-within-requires
-within-requires c κs = search needs
-
 returns : tie.Need-returns
 returns c = simp (c .within .ensures, c .before .size-of .ensures)
 
 pub signed-whole-spec : {M : Type 1} → statement M
-signed-whole-spec = tie.close (tie.spec size-of-requires within-requires returns)
+signed-whole-spec = tie.close (tie.spec (search needs) (search needs) returns)

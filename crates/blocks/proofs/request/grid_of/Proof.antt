@@ -6,23 +6,13 @@ use borrow.Author.Needs.{needs}
 use Rattle.blocks.proofs.request.grid_of.Statement.{statement}
 use Rattle.blocks.proofs.request.grid_of.Tie as tie
 
-word-at-requires : tie.Need-word-at-requires
-word-at-requires c κs = search needs
-
-word-at-requires-2 : tie.Need-word-at-requires-2
-word-at-requires-2 c κs = search needs
-
-steps-of-requires : tie.Need-steps-of-requires
-steps-of-requires c κs = search needs
-
-x-back : (c : tie.After-steps-of) → toZ w32 (ofZ w32 (c .before .before .before .before .word-at .result .value)) ≡ c .before .before .before .before .word-at .result .value
-x-back c = search needs
-
-y-back : (c : tie.After-steps-of) → toZ w32 (ofZ w32 (c .before .before .before .word-at2 .result .value)) ≡ c .before .before .before .word-at2 .result .value
-y-back c = search needs
-
 returns : tie.Need-returns
-returns c = simp (x-back c, y-back c) (simp (c .before .before .before .before .word-at .ensures, c .before .before .before .word-at2 .ensures, c .steps-of .ensures))
+returns c =
+    let i = c .before .before .before .before .word-at in
+    let i-back : toZ w32 (ofZ w32 (i .result .value)) ≡ i .result .value = search needs in
+    let j = c .before .before .before .word-at2 in
+    let j-back : toZ w32 (ofZ w32 (j .result .value)) ≡ j .result .value = search needs in
+    simp (i-back, j-back) (simp (i .ensures, j .ensures, c .steps-of .ensures))
 
 pub grid-of-spec : {M : Type 1} → statement M
-grid-of-spec = tie.close (tie.spec word-at-requires word-at-requires-2 steps-of-requires returns)
+grid-of-spec = tie.close (tie.spec (search needs) (search needs) (search needs) returns)

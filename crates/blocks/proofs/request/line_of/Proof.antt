@@ -1,36 +1,23 @@
 -- The lengths, read back from the words that hold them, and the count. Assumes nothing.
-use mathlib.Core.Path.{_≡_, sym, subst}
-use Prim.Native.Nat.{_≤_}
-use lib.IntN.{natAbs}
+use mathlib.Core.Path.{_≡_}
 use mir.Syntax.{w32}
 use mir.Val.{toZ, ofZ}
 use borrow.Author.Needs.{needs}
-use Rattle.aries.specs.declared.word.Word.{Word}
 use Rattle.blocks.proofs.request.line_of.Statement.{statement}
 use Rattle.blocks.proofs.request.line_of.Tie as tie
 
-word-at-requires : tie.Need-word-at-requires
-word-at-requires c κs = search needs
-
-word-at-requires-2 : tie.Need-word-at-requires-2
-word-at-requires-2 c κs = search needs
-
-word-at-requires-3 : tie.Need-word-at-requires-3
-word-at-requires-3 c κs = search needs
-
 count-requires : tie.Need-count-requires
-count-requires c κs = subst (λ (v : Word). natAbs (v .value) ≤ 999) (sym (c .word-at3 .ensures)) (c .before .before .before .pre)
-
-pitch-back : (c : tie.After-struct-told2) → toZ w32 (ofZ w32 (c .before .before .before .before .before .word-at .result .value)) ≡ c .before .before .before .before .before .word-at .result .value
-pitch-back c = search needs
-
-angle-back : (c : tie.After-struct-told2) → toZ w32 (ofZ w32 (c .before .before .before .before .word-at2 .result .value)) ≡ c .before .before .before .before .word-at2 .result .value
-angle-back c = search needs
+count-requires c κs = rw (c .word-at3 .ensures) (c .before .before .before .pre)
 
 returns : tie.Need-returns
-returns c = simp (pitch-back c, angle-back c) (simp (c .before .before .before .before .before .word-at .ensures, c .before .before .before .before .word-at2 .ensures, c .before .before .count .ensures, c .before .before .before .word-at3 .ensures))
+returns c =
+    let i = c .before .before .before .before .before .word-at in
+    let i-back : toZ w32 (ofZ w32 (i .result .value)) ≡ i .result .value = search needs in
+    let j = c .before .before .before .before .word-at2 in
+    let j-back : toZ w32 (ofZ w32 (j .result .value)) ≡ j .result .value = search needs in
+    simp (i-back, j-back) (simp (i .ensures, j .ensures, c .before .before .count .ensures, c .before .before .before .word-at3 .ensures))
 
 pub line-of-spec : {M : Type 1} → statement M
 line-of-spec =
     tie.close
-    (tie.spec word-at-requires word-at-requires-2 word-at-requires-3 count-requires returns)
+    (tie.spec (search needs) (search needs) (search needs) count-requires returns)

@@ -1,23 +1,13 @@
 -- Both numbers are within their bounds. Assumes nothing.
-use mathlib.Core.Path.{sym, subst}
-use Prim.Native.Nat.{_≤_}
-use lib.IntN.{natAbs}
 use borrow.Author.Needs.{needs}
-use Rattle.aries.specs.declared.word.Word.{Word}
 use Rattle.blocks.proofs.request.run_of.Statement.{statement}
 use Rattle.blocks.proofs.request.run_of.Tie as tie
 
-word-at-requires : tie.Need-word-at-requires
-word-at-requires c κs = search needs
-
 small-requires : tie.Need-small-requires
-small-requires c κs = subst (λ (v : Word). natAbs (v .value) ≤ 255) (sym (c .word-at .ensures)) (c .before .pre .0)
-
-word-at-requires-2 : tie.Need-word-at-requires-2
-word-at-requires-2 c κs = search needs
+small-requires c κs = rw (c .word-at .ensures) (c .before .pre .0)
 
 small-requires-2 : tie.Need-small-requires-2
-small-requires-2 c κs = subst (λ (v : Word). natAbs (v .value) ≤ 255) (sym (c .word-at2 .ensures)) (c .before .before .before .pre .1)
+small-requires-2 c κs = rw (c .word-at2 .ensures) (c .before .before .before .pre .1)
 
 returns : tie.Need-returns
 returns c = simp (c .before .before .small .ensures, c .before .before .before .word-at .ensures, c .small2 .ensures, c .before .word-at2 .ensures)
@@ -25,4 +15,4 @@ returns c = simp (c .before .before .small .ensures, c .before .before .before .
 pub run-of-spec : {M : Type 1} → statement M
 run-of-spec =
     tie.close
-    (tie.spec word-at-requires small-requires word-at-requires-2 small-requires-2 returns)
+    (tie.spec (search needs) small-requires (search needs) small-requires-2 returns)
