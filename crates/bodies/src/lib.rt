@@ -136,14 +136,14 @@ fn run_block(
     match next {
         Next::Refused(number, place) => Outcome::refused(number, place, progress),
         Next::Call(start, end, first, measure) => {
-            let opening = first_block(&text[start..end], first);
+            let inner = first_block(&text[start..end], first);
             let begun = progress.begun(measure);
             run_body(
                 depth - 1,
                 list,
                 text,
                 &text[start..end],
-                opening,
+                inner,
                 macros,
                 frame,
                 begun,

@@ -72,8 +72,8 @@ advanced-requires c κs = search needs
 frame-requires : tie.Need-frame-requires
 frame-requires c κs = search needs
 
-run-block-requires : tie.Need-run-block-requires
-run-block-requires c κs = let h = c .before .before .before .before .before .before .before .before .pre in (h .0, h .1 .1 .1)
+carry-call-requires : tie.Need-carry-call-requires
+carry-call-requires c κs = let h = c .before .before .before .before .before .before .before .before .pre in (h .0, h .1 .1 .1)
 
 advanced-requires-2 : tie.Need-advanced-requires-2
 advanced-requires-2 c κs = search needs
@@ -133,7 +133,7 @@ returns-8 c =
     let a = c .before .before .before .before .before .before .before .before .before .before .before .args in
     let j = lent (length (a .list .now)) in
     let f = ordinaryFrame (a .program .setup) in
-    let r = c .before .before .run-block in
+    let r = c .before .before .carry-call in
     let e : Carried (r .result) (a .list .now) (r .last .1 .0) (a .program .progress .hits) (carry j (call j (a .text .now) (a .program .setup .macros) f mostCalls) f (a .line) (a .block) (a .program .progress)) = rw (c .before .before .before .frame .ensures) at (r .ensures) in
     rw (carry-out-as-in-body j (a .text .now) (a .next) (a .line) (lines (drop (a .next) (a .text .now))) (a .block) (a .program) (c .before .before .before .before .before .before .match .keys8))
     (advanced-by (c .advanced2 .result) (a .program) (r .result) (a .list .now) _ (a .program .progress .hits) _ (c .advanced2 .ensures) e)
@@ -160,7 +160,7 @@ carry-out-spec =
     copy-part-requires
     advanced-requires
     frame-requires
-    run-block-requires
+    carry-call-requires
     advanced-requires-2
     returns
     returns-2
