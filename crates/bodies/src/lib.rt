@@ -35,13 +35,13 @@ pub const MOST_CALLS: u8 = 4;
 // The calls that a body may still open when its own is the only one.
 pub const FURTHER_CALLS: u8 = 3;
 
-// Where the first block of a body starts, or the body ends, and the number of that line.
+// Where a block of a body starts, or the body ends, and the number of that line.
 pub struct Opening {
     pub at: usize,
     pub line: u64,
 }
 
-// The opening of a body whose first line has a number.
+// Where the first block starts in a body whose first line has a number.
 pub fn first_block(body: &[u8], first: u16) -> Opening
     ensures { λ r. ⌜ Opens (now (body .entry)) first r ⌝ }
 {
@@ -77,7 +77,7 @@ fn find_body(depth: u8, block: Block, macros: Macros) -> Called
     Called::Body(start, end, first)
 }
 
-// What the block of a line comes to: a call with its G90 or G91, of which it has none, or a refusal with its line.
+// What the block of a line comes to: the body that it calls and how the block measures, or a refusal with its line.
 pub enum Next {
     Call(usize, usize, u16, Measure),
     Refused(u8, u64),
@@ -118,7 +118,8 @@ fn next_opening(body: &[u8], end: usize, line: u64) -> Opening
     }
 }
 
-// The block of a line that has no direct block, with so many calls left to open: counted, decoded, and its call carried out.
+// The block of a line that has no direct block, with so many calls left to open: it is counted and decoded, and the body
+// that it calls is run.
 fn run_block(
     depth: u8,
     list: &mut [i32],
@@ -190,7 +191,8 @@ pub fn run_body(
     Outcome::passed(now)
 }
 
-// A block that is not direct, decoded and counted, with so many calls left to open: W, or one that is out of place.
+// A block that is not direct, decoded and counted already, with so many calls left to open: W runs a body, and a block of
+// another kind is out of place.
 pub fn carry_call(
     depth: u8,
     list: &mut [i32],
