@@ -15,6 +15,7 @@ use Rattle.aries.proofs.setup.Stage as stage
 use Rattle.aries.specs.declared.block.Block.{Block}
 use Rattle.aries.specs.declared.block.Block.the-variants.{Machine, End, Read, Punch, Move, Origin, Offset, Place, Run, Recall, Nibble, Idle, Open, Close, Call, Copy}
 use Rattle.aries.specs.declared.block.Instruction.{Instruction}
+use Rattle.aries.specs.declared.point.Point.{Point}
 use Rattle.aries.specs.declared.setup.Program.{Program}
 use Rattle.aries.specs.declared.setup.Stage.{Stage}
 use Rattle.aries.specs.declared.setup.Stage.the-variants.{Fresh, Running, Storing, Ended}
@@ -101,27 +102,31 @@ carry-out-as-in-body j text next line ls (Close k) p h = absurd (miss asInBodies
 carry-out-as-in-body j text next line ls (Call k) p h = refl
 carry-out-as-in-body j text next line ls (Copy c) p h = absurd (miss asInBodies 15 tt h)
 
+-- A block is not G92, by whatever G92 has not.
+pub no-machine-by : (P : Block → Type 0) → ((q : Point) → P (Machine q) → ⊥) → (b : Block) → P b → isMachine b ≡ false
+no-machine-by P never (Machine q) h = absurd (never q h)
+no-machine-by P never End h = refl
+no-machine-by P never Read h = refl
+no-machine-by P never (Punch a t) h = refl
+no-machine-by P never (Move a t) h = refl
+no-machine-by P never (Origin a) h = refl
+no-machine-by P never (Offset a) h = refl
+no-machine-by P never (Place l) h = refl
+no-machine-by P never (Run q t a) h = refl
+no-machine-by P never (Recall k) h = refl
+no-machine-by P never (Nibble b) h = refl
+no-machine-by P never Idle h = refl
+no-machine-by P never (Open k) h = refl
+no-machine-by P never (Close k) h = refl
+no-machine-by P never (Call k) h = refl
+no-machine-by P never (Copy c) h = refl
+
 -- every block but G92
 abbrev pub notMachines : List ℕ
 notMachines = 1 ∷ 2 ∷ 3 ∷ 4 ∷ 5 ∷ 6 ∷ 7 ∷ 8 ∷ 9 ∷ 10 ∷ 11 ∷ 12 ∷ 13 ∷ 14 ∷ 15 ∷ []
 
 pub not-machine : (b : Block) → OneOf notMachines (tagOf the-type b) → isMachine b ≡ false
-not-machine (Machine q) h = absurd (miss notMachines 0 tt h)
-not-machine End h = refl
-not-machine Read h = refl
-not-machine (Punch a t) h = refl
-not-machine (Move a t) h = refl
-not-machine (Origin a) h = refl
-not-machine (Offset a) h = refl
-not-machine (Place l) h = refl
-not-machine (Run q t a) h = refl
-not-machine (Recall k) h = refl
-not-machine (Nibble b) h = refl
-not-machine Idle h = refl
-not-machine (Open k) h = refl
-not-machine (Close k) h = refl
-not-machine (Call k) h = refl
-not-machine (Copy c) h = refl
+not-machine = no-machine-by (λ b. OneOf notMachines (tagOf the-type b)) (λ q h. miss notMachines 0 tt h)
 
 -- ---- Lines that are not blank
 

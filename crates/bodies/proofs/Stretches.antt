@@ -98,22 +98,7 @@ module _ (j : Judging) (t : List ℕ) (next line : ℕ) (ls : List (List ℕ)) w
   carry-out (Copy c) p h = let z : _≡_ {A = ℕ} 0 1 = cc in absurd (omega arith)
 
 pub no-machine : (b : Block) → isDirect b ≡ true → not (isMachine b) ≡ true
-no-machine (Machine q) h = h
-no-machine End h = refl
-no-machine Read h = refl
-no-machine (Punch a t) h = refl
-no-machine (Move a t) h = refl
-no-machine (Origin a) h = refl
-no-machine (Offset a) h = refl
-no-machine (Place l) h = refl
-no-machine (Run q t a) h = refl
-no-machine (Recall k) h = refl
-no-machine (Nibble b) h = refl
-no-machine Idle h = refl
-no-machine (Open k) h = refl
-no-machine (Close k) h = refl
-no-machine (Call k) h = refl
-no-machine (Copy c) h = refl
+no-machine b h = ap not (outside.no-machine-by (λ b. isDirect b ≡ true) (λ q e. let z : _≡_ {A = ℕ} 0 1 = cc in omega arith) b h)
 
 -- it is counted, for its line is no V line
 module _ (l : List ℕ) (line : ℕ) (i : Instruction) (d : decode l line ≡ done i) (h : isDirect (i .block) ≡ true) where

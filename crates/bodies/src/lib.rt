@@ -54,7 +54,7 @@ pub fn first_block(body: &[u8], first: u16) -> Opening
 
 // What a block that is not direct comes to: the body that it calls, from a place of the text to another and with the
 // number of its first line, or a refusal's number.
-pub enum Called {
+enum Called {
     Body(usize, usize, u16),
     Refused(u8),
 }
@@ -78,7 +78,7 @@ fn find_body(depth: u8, block: Block, macros: Macros) -> Called
 }
 
 // What the block of a line comes to: the body that it calls and how the block measures, or a refusal with its line.
-pub enum Next {
+enum Next {
     Call(usize, usize, u16, Measure),
     Refused(u8, u64),
 }

@@ -82,7 +82,7 @@ impl Stretch {
         }
     }
 
-    // Whether nothing is left to carry out behind it in a text of so many bytes: it was refused, or the text is at its end.
+    // Whether nothing is left to carry out behind it in a text of so many bytes: it was refused, or has come to the end.
     pub fn is_over(self, size: usize) -> bool
         ensures { λ r. ⌜ r ≡ isOver self size ⌝ }
     {
@@ -103,8 +103,8 @@ impl Stretch {
     }
 }
 
-// Direct blocks one after another, from one at a place on: up to a refusal, the end of the text or a block that is not direct
-// or has a refusal of its own.
+// Direct blocks one after another, from one at a place on: up to a refusal, the end of the text or a block that is not
+// direct or has a refusal of its own.
 pub fn run_stretch(
     list: &mut [i32],
     text: &[u8],
