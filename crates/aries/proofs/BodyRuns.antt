@@ -1,24 +1,26 @@
 -- Every definition that carries out blocks of a body follows itself without limits on blocks and places: moved by a vector,
--- with counts that go up by as many (`Follows`). One law a definition; a code that is added later adds a case to
--- `carry-follows`.
-use mathlib.Core.Path.{_≡_, refl, sym, ap₂, subst}
-use mathlib.Core.Bool.{Bool, true, false}
+-- under another job, in other lines, from other places of another text, with counts that go up by as many (`Follows`). One law
+-- a definition; a code that is added later adds a case to `carryDirect-follows`.
+use mathlib.Core.Path.{_≡_, refl, sym, ap, ap₂, _∙_, subst, fun-ext}
+use mathlib.Core.Bool.{Bool, true, false, not}
 use mathlib.Core.List.{List, [], _∷_}
-use mathlib.Core.Option.{none}
+use mathlib.Core.Option.{Option, none, some}
 use Prim.Native.Nat.{ℕ, zero, suc, _-_}
+use native.Mathlib.Omega.{arith}
 use lib.Dec.{ltb}
 use lib.IntN.{ℤ, _+ℤ_}
 use lib.ListN.{getD}
+use Rattle.aries.specs.declared.job.Job.{Job}
 use Rattle.aries.specs.declared.point.Point.{Point}
-use Rattle.aries.specs.declared.machine.Machine.{Machine}
 use Rattle.aries.specs.declared.block.Axis.{Axis}
 use Rattle.aries.specs.declared.block.Axes.{Axes}
 use Rattle.aries.specs.declared.block.Pattern.{Pattern}
 use Rattle.aries.specs.declared.block.Pattern.the-variants.{Line, Arc, Circle, Grid}
+use Rattle.aries.specs.declared.block.Direct.{Direct}
+use Rattle.aries.specs.declared.block.Direct.the-variants.{Lone, Punch, Move, PatternOrigin, Run, Recall, Nibble, Idle}
 use Rattle.aries.specs.declared.block.Block.{Block}
 use Rattle.aries.specs.declared.block.Block.the-variants as Block
 use Rattle.aries.specs.declared.block.Instruction.{Instruction}
-use Rattle.aries.specs.declared.macros.Macros.{Macros}
 use Rattle.aries.specs.declared.state.Waiting.{Waiting}
 use Rattle.aries.specs.declared.state.Waiting.the-variants.{Unset, At}
 use Rattle.aries.specs.declared.state.Stored.{Stored}
@@ -26,16 +28,18 @@ use Rattle.aries.specs.declared.state.Stored.the-variants.{Empty, Kept}
 use Rattle.aries.specs.declared.state.State.{State}
 use Rattle.aries.specs.declared.state.Frame.{Frame}
 use Rattle.aries.specs.declared.state.Progress.{Progress}
-use Rattle.aries.specs.Outcome.{Out, done, refused, _>>=_, need}
-use Rattle.aries.specs.Test.{pick}
+use Rattle.aries.specs.Outcome.{Out, done, refused, _>>=_, need, given, Checked, passes, fails, inLine}
+use Rattle.aries.specs.Test.{either, pick}
 use Rattle.aries.specs.Text.{lines}
-use Rattle.aries.specs.Machine.{covers}
+use Rattle.aries.specs.Machine.{inRange}
 use Rattle.aries.specs.Blocks.{decode}
 use Rattle.aries.specs.Hits.{Made, still, leaving}
-use Rattle.aries.specs.Judging.{Judging, judged, near}
-use Rattle.aries.specs.Moves.{_⊕_, movedTo, waitingFor, inMode, choosing, remembering, measuring, dropping, axisTarget, target, withState, hitOf, punch, position, move, setOrigin}
+use Rattle.aries.specs.Judging.{Judging, room, judged, near}
+use Rattle.aries.specs.Moves.{_⊕_, movedTo, waitingFor, inMode, choosing, remembering, measuring, dropping, axisTarget, target, withState, hitOf, punch, position, move, setPatternOrigin}
 use Rattle.aries.specs.Patterns.{hole, holes, reaches, punches, startAt, startOf, ending, pattern, runPattern, emptyMemory, recalled, recall}
-use Rattle.aries.specs.Macros.{isStored, firstLine, body, Calls, carry, runBlock, runLine, runLines, call, runBody}
+use Rattle.aries.specs.Macros.{Body, Bodies, Calls, carryDirect, carry, isCounted, mayCome, begun, begin, runBlock, runLine, runLines, call, runBody}
+use Rattle.aries.specs.CopyRuns.{bytesOf}
+use Rattle.aries.proofs.Outcomes.{>>=-assoc}
 use Rattle.aries.proofs.Points.{+ℤ-swap, ⊕-swap}
 use Rattle.aries.proofs.Counts.{Counts, anotherBlock}
 use Rattle.aries.proofs.Follows.{movedWaiting, movedState, movedFrame, progress, Looser, alike, Follows, refusals, Beside, follows-still, follows-need, follows-then, follows-leaving, follows-counted, follows-hit}
@@ -52,8 +56,8 @@ axis-moves a incremental o c d = go (a .written) incremental
     go true true = +ℤ-swap c d (a .value)
     go true false = +ℤ-swap o d (a .value)
 
-target-moves : (v : Point) (f : Frame) (s : State) (a : Axes) → target (movedFrame v f) (movedState v s) a ≡ target f s a ⊕ v
-target-moves v f s a =
+target-moves : (v : Point) (job : Job) (f : Frame) (s : State) (a : Axes) → target (movedFrame v job f) (movedState v s) a ≡ target f s a ⊕ v
+target-moves v job f s a =
     ap₂ (λ (x y : ℤ). record { x = x; y = y })
     (axis-moves (a .x) (s .incremental) (f .origin .x) (s .current .x) (v .x))
     (axis-moves (a .y) (s .incremental) (f .origin .y) (s .current .y) (v .y))
@@ -65,180 +69,214 @@ start-moves v (At q) p = refl
 -- ---- Bounds
 
 -- What j judges of a moved point is judged of the point itself, or dropped where E fails; so with a pattern's reach.
-pub record Bounds (E : Type 0) (j : Judging) (bounds : Bool) (v : Point) : Type 0 where
+pub record Bounds (E : Type 0) (j : Judging) (bounds : Bool) (v : Point) (job : Job) : Type 0 where
   pub nearness : (p : Point) → Looser E (judged (j .bounds) (near (p ⊕ v))) (judged bounds (near p))
-  pub coverage : (m : Machine) (p : Point) → Looser E (judged (j .bounds) (covers m (p ⊕ v))) (judged bounds (covers m p))
+  pub coverage : (f : Frame) (p : Point) → Looser E (judged (j .bounds) (inRange (movedFrame v job f) (p ⊕ v))) (judged bounds (inRange f p))
   pub reach : (t : Bool) → Looser E (judged (j .bounds) t) (judged bounds t)
 
 -- no limit on blocks and places
 abbrev pub unlimited : Bool → Judging
 unlimited bounds = record { blocks = none; bounds = bounds; places = none }
 
-module _ {E : Type 0} (j : Judging) (bounds : Bool) (v : Point) (w : Bounds E j bounds v) where
+module _ {E : Type 0} (j : Judging) (bounds : Bool) (v : Point) (job : Job) (w : Bounds E j bounds v job) where
   -- the judging of y
   abbrev free : Judging
   free = unlimited bounds
+
+  -- the frame of x
+  abbrev moved : Frame → Frame
+  moved f = movedFrame v job f
 
   abbrev _beside_ : (Progress → Out (Made Progress)) → (Progress → Out (Made Progress)) → Type 0
 
   infix 5 _beside_
   x beside y = Beside E j v x y
 
-  -- ---- Positions
+  module _ (f : Frame) (line line′ : ℕ) where
+    -- ---- Positions
 
-  punch-follows : (f : Frame) (line : ℕ) (p : Point) → punch j (movedFrame v f) line (p ⊕ v) beside punch free f line p
-  unfolding punch
-  punch-follows f line p s n n′ =
-      follows-need 14 line (alike {t = ltb 0 (s .tool)})
-      (follows-need 15 line (w .nearness p)
-      (follows-need 16 line (w .coverage (f .machine) p)
-      (follows-hit 17 line (hitOf s p) (movedTo s p) n n′)))
+    punch-follows : (p : Point) → punch j (moved f) line (p ⊕ v) beside punch free f line′ p
+    unfolding punch
+    punch-follows p s n n′ =
+        follows-need 14 line line′ (alike {t = ltb 0 (s .tool)})
+        (follows-need 15 line line′ (w .nearness p)
+        (follows-need 16 line line′ (w .coverage f p)
+        (follows-hit 17 line (hitOf s p) (movedTo s p) n n′)))
 
-  position-follows : (f : Frame) (line : ℕ) (a : Axes) (t : ℕ) → position j (movedFrame v f) line a t beside position free f line a t
-  unfolding position
-  position-follows f line a t s n n′ =
-      subst
-      (λ (q : Point). Follows E j v n n′ (punch j (movedFrame v f) line q (progress (dropping (choosing (movedState v s) t)) n)) (position free f line a t (progress s n′)))
-      (sym (target-moves v f s a))
-      (punch-follows f line (target f s a) (dropping (choosing s t)) n n′)
+    position-follows : (a : Axes) (t : ℕ) → position j (moved f) line a t beside position free f line′ a t
+    unfolding position
+    position-follows a t s n n′ =
+        subst
+        (λ (q : Point). Follows E j v n n′ (punch j (moved f) line q (progress (dropping (choosing (movedState v s) t)) n)) (position free f line′ a t (progress s n′)))
+        (sym (target-moves v job f s a))
+        (punch-follows (target f s a) (dropping (choosing s t)) n n′)
 
-  -- a move to a point
-  moveTo : Frame → ℕ → ℕ → Point → Progress → Out (Made Progress)
-  moveTo f line t q g = do
-    _ ← need (judged (j .bounds) (near q)) 15 line
-    _ ← need (judged (j .bounds) (covers (f .machine) q)) 16 line
-    still (withState g (movedTo (dropping (choosing (g .state) t)) q))
+    -- a move to a point
+    moveTo : ℕ → Point → Progress → Out (Made Progress)
+    moveTo t q g = do
+      _ ← need (judged (j .bounds) (near q)) 15 line
+      _ ← need (judged (j .bounds) (inRange (moved f) q)) 16 line
+      still (withState g (movedTo (dropping (choosing (g .state) t)) q))
 
-  move-follows : (f : Frame) (line : ℕ) (a : Axes) (t : ℕ) → move j (movedFrame v f) line a t beside move free f line a t
-  unfolding move moveTo
-  move-follows f line a t s n n′ =
-      subst (λ (q : Point). Follows E j v n n′ (moveTo (movedFrame v f) line t q (progress (movedState v s) n)) (move free f line a t (progress s n′)))
-      (sym (target-moves v f s a))
-      (follows-need 15 line (w .nearness (target f s a))
-      (follows-need 16 line (w .coverage (f .machine) (target f s a))
-      (follows-still (movedTo (dropping (choosing s t)) (target f s a)) n n′)))
+    move-follows : (a : Axes) (t : ℕ) → move j (moved f) line a t beside move free f line′ a t
+    unfolding move moveTo
+    move-follows a t s n n′ =
+        subst (λ (q : Point). Follows E j v n n′ (moveTo t q (progress (movedState v s) n)) (move free f line′ a t (progress s n′)))
+        (sym (target-moves v job f s a))
+        (follows-need 15 line line′ (w .nearness (target f s a))
+        (follows-need 16 line line′ (w .coverage f (target f s a))
+        (follows-still (movedTo (dropping (choosing s t)) (target f s a)) n n′)))
 
-  -- a waiting origin at a point
-  waitAt : ℕ → Point → Progress → Out (Made Progress)
-  waitAt line q g = do
-    _ ← need (judged (j .bounds) (near q)) 15 line
-    still (withState g (waitingFor (g .state) (At q)))
+    -- a waiting origin at a point
+    waitAt : Point → Progress → Out (Made Progress)
+    waitAt q g = do
+      _ ← need (judged (j .bounds) (near q)) 15 line
+      still (withState g (waitingFor (g .state) (At q)))
 
-  setOrigin-follows : (f : Frame) (line : ℕ) (a : Axes) → setOrigin j (movedFrame v f) line a beside setOrigin free f line a
-  unfolding setOrigin waitAt
-  setOrigin-follows f line a s n n′ =
-      subst (λ (q : Point). Follows E j v n n′ (waitAt line q (progress (movedState v s) n)) (setOrigin free f line a (progress s n′)))
-      (sym (target-moves v f s a))
-      (follows-need 15 line (w .nearness (target f s a))
-      (follows-still (waitingFor s (At (target f s a))) n n′))
+    setPatternOrigin-follows : (a : Axes) → setPatternOrigin j (moved f) line a beside setPatternOrigin free f line′ a
+    unfolding setPatternOrigin waitAt
+    setPatternOrigin-follows a s n n′ =
+        subst (λ (q : Point). Follows E j v n n′ (waitAt q (progress (movedState v s) n)) (setPatternOrigin free f line′ a (progress s n′)))
+        (sym (target-moves v job f s a))
+        (follows-need 15 line line′ (w .nearness (target f s a))
+        (follows-still (waitingFor s (At (target f s a))) n n′))
 
-  -- ---- Patterns
+    -- ---- Patterns
 
-  punches-follow :
-      (f : Frame) (line : ℕ) (p : Pattern) (start : Point) (k i : ℕ) → punches j (movedFrame v f) line p (start ⊕ v) k i beside punches free f line p start k i
-  unfolding punches
-  punches-follow f line p start zero i s n n′ = follows-still s n n′
-  punches-follow f line p start (suc k) i s n n′ =
-      follows-then (punches j (movedFrame v f) line p (start ⊕ v) k (suc i)) (punches free f line p start k (suc i))
-      (subst
-      (λ (q : Point). Follows E j v n n′ (punch j (movedFrame v f) line q (progress (movedState v s) n)) (punch free f line (start ⊕ hole p i) (progress s n′)))
-      (⊕-swap start (hole p i) v)
-      (punch-follows f line (start ⊕ hole p i) s n n′))
-      (punches-follow f line p start k (suc i))
+    punches-follow : (p : Pattern) (start : Point) (k i : ℕ) → punches j (moved f) line p (start ⊕ v) k i beside punches free f line′ p start k i
+    unfolding punches
+    punches-follow p start zero i s n n′ = follows-still s n n′
+    punches-follow p start (suc k) i s n n′ =
+        follows-then (punches j (moved f) line p (start ⊕ v) k (suc i)) (punches free f line′ p start k (suc i))
+        (subst
+        (λ (q : Point). Follows E j v n n′ (punch j (moved f) line q (progress (movedState v s) n)) (punch free f line′ (start ⊕ hole p i) (progress s n′)))
+        (⊕-swap start (hole p i) v)
+        (punch-follows (start ⊕ hole p i) s n n′))
+        (punches-follow p start k (suc i))
 
-  ending-follows :
-      (p : Pattern) (start : Point) {n n′ : Counts} {x y : Out (Made Progress)} → Follows E j v n n′ x y
-      → Follows E j v n n′ (leaving (ending p (start ⊕ v)) x) (leaving (ending p start) y)
-  ending-follows (Line pitch angle count) start r = follows-leaving (λ s. s) (λ s. s) r (λ s. refl)
-  ending-follows (Arc radius angle step count) start r = follows-leaving (λ s. s) (λ s. s) r (λ s. refl)
-  ending-follows (Circle radius angle clockwise count) start r = follows-leaving (λ s. movedTo s (start ⊕ v)) (λ s. movedTo s start) r (λ s. refl)
-  ending-follows (Grid vertical pitch steps) start r = follows-leaving (λ s. s) (λ s. s) r (λ s. refl)
+    ending-follows :
+        (p : Pattern) (start : Point) {n n′ : Counts} {x y : Out (Made Progress)} → Follows E j v n n′ x y
+        → Follows E j v n n′ (leaving (ending p (start ⊕ v)) x) (leaving (ending p start) y)
+    ending-follows (Line pitch angle count) start r = follows-leaving (λ s. s) (λ s. s) r (λ s. refl)
+    ending-follows (Arc radius angle step count) start r = follows-leaving (λ s. s) (λ s. s) r (λ s. refl)
+    ending-follows (Circle radius angle clockwise count) start r = follows-leaving (λ s. movedTo s (start ⊕ v)) (λ s. movedTo s start) r (λ s. refl)
+    ending-follows (Grid vertical pitch steps) start r = follows-leaving (λ s. s) (λ s. s) r (λ s. refl)
 
-  pattern-follows : (f : Frame) (line : ℕ) (p : Pattern) → pattern j (movedFrame v f) line p beside pattern free f line p
-  unfolding pattern
-  pattern-follows f line p s n n′ =
-      rw (start-moves v (s .waiting .origin) (s .current))
-      (follows-need 15 line (w .reach (reaches p))
-      (ending-follows p (startOf s) (punches-follow f line p (startOf s) (holes p) 0 (movedTo (dropping s) (startOf s)) n n′)))
+    pattern-follows : (p : Pattern) → pattern j (moved f) line p beside pattern free f line′ p
+    unfolding pattern
+    pattern-follows p s n n′ =
+        rw (start-moves v (s .waiting .origin) (s .current))
+        (follows-need 15 line line′ (w .reach (reaches p))
+        (ending-follows p (startOf s) (punches-follow p (startOf s) (holes p) 0 (movedTo (dropping s) (startOf s)) n n′)))
 
-  runPattern-follows :
-      (f : Frame) (line : ℕ) (p : Pattern) (t a : ℕ)
-      → runPattern j (movedFrame v f) line p t a beside runPattern free f line p t a
-  unfolding runPattern
-  runPattern-follows f line p t a s n n′ = pattern-follows f line p (remembering (choosing s t) a p) n n′
+    runPattern-follows : (p : Pattern) (t a : ℕ) → runPattern j (moved f) line p t a beside runPattern free f line′ p t a
+    unfolding runPattern
+    runPattern-follows p t a s n n′ = pattern-follows p (remembering (choosing s t) a p) n n′
 
-  recalled-follows : (f : Frame) (line : ℕ) (m : Stored) → recalled j (movedFrame v f) line m beside recalled free f line m
-  unfolding pattern
-  recalled-follows f line Empty s n n′ = refusals
-  recalled-follows f line (Kept p) s n n′ = pattern-follows f line p s n n′
+    recalled-follows : (m : Stored) → recalled j (moved f) line m beside recalled free f line′ m
+    unfolding pattern
+    recalled-follows Empty s n n′ = refusals
+    recalled-follows (Kept p) s n n′ = pattern-follows p s n n′
 
-  recall-follows : (f : Frame) (line k : ℕ) → recall j (movedFrame v f) line k beside recall free f line k
-  unfolding recall
-  recall-follows f line k s n n′ = recalled-follows f line (getD (s .memories) (k - 1) emptyMemory .stored) s n n′
+    recall-follows : (k : ℕ) → recall j (moved f) line k beside recall free f line′ k
+    unfolding recall
+    recall-follows k s n n′ = recalled-follows (getD (s .memories) (k - 1) emptyMemory .stored) s n n′
+
+    -- ---- Direct blocks
+
+    carryDirect-follows : (d : Direct) → carryDirect j (moved f) line d beside carryDirect free f line′ d
+    unfolding carryDirect
+    carryDirect-follows Lone s n n′ = follows-still (dropping s) n n′
+    carryDirect-follows (Punch a t) s n n′ = position-follows a t s n n′
+    carryDirect-follows (Move a t) s n n′ = move-follows a t s n n′
+    carryDirect-follows (PatternOrigin a) s n n′ = setPatternOrigin-follows a s n n′
+    carryDirect-follows (Run p t a) s n n′ = runPattern-follows p t a s n n′
+    carryDirect-follows (Recall k) s n n′ = recall-follows k s n n′
+    carryDirect-follows (Nibble b) s n n′ = follows-still (inMode s b) n n′
+    carryDirect-follows Idle s n n′ = follows-still s n n′
 
   -- ---- Blocks and lines, for whatever calls do that follow each other
 
-  module _ (f : Frame) (c c′ : Calls) (calls-follow : (k line : ℕ) → c k line beside c′ k line) where
-    carry-follows : (line : ℕ) (k : Block) → carry j c (movedFrame v f) line k beside carry free c′ f line k
+  module _ (f : Frame) (c c′ : Calls) (calls-follow : (f : Frame) (k line line′ : ℕ) → c (moved f) k line beside c′ f k line′) where
+    carry-follows : (line line′ : ℕ) (b : Block) → carry j c (moved f) line b beside carry free c′ f line′ b
     unfolding carry
-    carry-follows line (Block.Machine p) s n n′ = refusals
-    carry-follows line Block.End s n n′ = refusals
-    carry-follows line Block.Read s n n′ = follows-still (dropping s) n n′
-    carry-follows line (Block.Punch a t) s n n′ = position-follows f line a t s n n′
-    carry-follows line (Block.Move a t) s n n′ = move-follows f line a t s n n′
-    carry-follows line (Block.Origin a) s n n′ = setOrigin-follows f line a s n n′
-    carry-follows line (Block.Offset a) s n n′ = refusals
-    carry-follows line (Block.Place l) s n n′ = refusals
-    carry-follows line (Block.Run p t a) s n n′ = runPattern-follows f line p t a s n n′
-    carry-follows line (Block.Recall k) s n n′ = recall-follows f line k s n n′
-    carry-follows line (Block.Nibble b) s n n′ = follows-still (inMode s b) n n′
-    carry-follows line Block.Idle s n n′ = follows-still s n n′
-    carry-follows line (Block.Open k) s n n′ = refusals
-    carry-follows line (Block.Close k) s n n′ = refusals
-    carry-follows line (Block.Call k) s n n′ = calls-follow k line s n n′
-    carry-follows line (Block.Copy k) s n n′ = refusals
+    carry-follows line line′ (Block.Direct d) s n n′ = carryDirect-follows f line line′ d s n n′
+    carry-follows line line′ (Block.Call k) s n n′ = calls-follow f k line line′ s n n′
+    carry-follows line line′ (Block.Outside o) s n n′ = refusals
 
-    -- a block that has been decoded, if it could be
+    -- a block that has been decoded, if it could be, and counts or not
+    abbrev decodedBlock : Judging → Calls → Frame → ℕ → Bool → Checked Instruction → State → Counts → Out (Made Progress)
+    decodedBlock j c f line counted o s n = _>>=_ (inLine line o) (λ i. carry j c f line (i .block) (begun counted (i .measure) (progress s n)))
+
     decoded-follows :
-        (line : ℕ) (o : Out Instruction) (s : State) (n n′ : Counts)
-        → Follows E j v (anotherBlock n) (anotherBlock n′)
-        (_>>=_ o (λ i. carry j c (movedFrame v f) line (i .block) (progress (measuring (movedState v s) (i .measure)) (anotherBlock n))))
-        (_>>=_ o (λ i. carry free c′ f line (i .block) (progress (measuring s (i .measure)) (anotherBlock n′))))
-    decoded-follows line (refused number at) s n n′ = refusals
-    decoded-follows line (done i) s n n′ = carry-follows line (i .block) (measuring s (i .measure)) (anotherBlock n) (anotherBlock n′)
+        (line line′ : ℕ) (counted : Bool) (o : Checked Instruction) (s : State) (n n′ : Counts)
+        → Follows E j v (pick counted (anotherBlock n) n) (pick counted (anotherBlock n′) n′)
+        (decodedBlock j c (moved f) line counted o (movedState v s) n) (decodedBlock free c′ f line′ counted o s n′)
+    decoded-follows line line′ counted (fails number) s n n′ = refusals
+    decoded-follows line line′ true (passes i) s n n′ = carry-follows line line′ (i .block) (measuring s (i .measure)) (anotherBlock n) (anotherBlock n′)
+    decoded-follows line line′ false (passes i) s n n′ = carry-follows line line′ (i .block) (measuring s (i .measure)) n n′
 
-    runBlock-follows : (line : ℕ) (bs : List ℕ) → runBlock j c (movedFrame v f) line bs beside runBlock free c′ f line bs
+    -- what is left of a block once it may come
+    block-decoded :
+        (k : Judging) (d : Calls) (e : Frame) (line : ℕ) (l : List ℕ) (s : State) (n : Counts)
+        → runBlock k d e line l (progress s n)
+        ≡ _>>=_ (need (mayCome k l (progress s n)) 3 line) (λ _. decodedBlock k d e line (isCounted l) (decode l) s n)
+    unfolding runBlock begin
+    block-decoded k d e line l s n =
+        >>=-assoc (need (mayCome k l (progress s n)) 3 line) _ _
+        ∙ ap (_>>=_ (need (mayCome k l (progress s n)) 3 line)) (fun-ext (λ _. >>=-assoc (inLine line (decode l)) _ _))
+
+    runBlock-follows : (line line′ : ℕ) (l : List ℕ) → runBlock j c (moved f) line l beside runBlock free c′ f line′ l
+    runBlock-follows line line′ l s n n′ =
+        rw (block-decoded j c (moved f) line l (movedState v s) n, block-decoded free c′ f line′ l s n′) (go (isCounted l))
+      where
+        go :
+            (counted : Bool)
+            → Follows E j v n n′
+            (_>>=_ (need (either (not counted) (room (j .blocks) (n .blocks))) 3 line) (λ _. decodedBlock j c (moved f) line counted (decode l) (movedState v s) n))
+            (_>>=_ (need (either (not counted) (room none (n′ .blocks))) 3 line′) (λ _. decodedBlock free c′ f line′ counted (decode l) s n′))
+        go true = follows-counted 3 line (decoded-follows line line′ true (decode l) s n n′)
+        go false = decoded-follows line line′ false (decode l) s n n′
+
+    runLine-follows : (line line′ : ℕ) (l : List ℕ) → runLine j c (moved f) line l beside runLine free c′ f line′ l
     unfolding runBlock
-    runBlock-follows line bs s n n′ = follows-counted 3 line (decoded-follows line (decode bs line) s n n′)
+    runLine-follows line line′ [] s n n′ = follows-still s n n′
+    runLine-follows line line′ (b ∷ bs) s n n′ = runBlock-follows line line′ (b ∷ bs) s n n′
 
-    runLine-follows : (line : ℕ) (l : List ℕ) → runLine j c (movedFrame v f) line l beside runLine free c′ f line l
-    unfolding runBlock
-    runLine-follows line [] s n n′ = follows-still s n n′
-    runLine-follows line (b ∷ bs) s n n′ = runBlock-follows line (b ∷ bs) s n n′
-
-    runLines-follow : (ls : List (List ℕ)) (line : ℕ) → runLines j c (movedFrame v f) line ls beside runLines free c′ f line ls
+    runLines-follow : (ls : List (List ℕ)) (line line′ : ℕ) → runLines j c (moved f) line ls beside runLines free c′ f line′ ls
     unfolding runLines
-    runLines-follow [] line s n n′ = follows-still s n n′
-    runLines-follow (l ∷ ls) line s n n′ =
-        follows-then (runLines j c (movedFrame v f) (suc line) ls) (runLines free c′ f (suc line) ls)
-        (runLine-follows line l s n n′) (runLines-follow ls (suc line))
+    runLines-follow [] line line′ s n n′ = follows-still s n n′
+    runLines-follow (l ∷ ls) line line′ s n n′ =
+        follows-then (runLines j c (moved f) (suc line) ls) (runLines free c′ f (suc line′) ls)
+        (runLine-follows line line′ l s n n′) (runLines-follow ls (suc line) (suc line′))
 
-  -- ---- Calls
+  -- ---- Calls of what is stored, wherever it stands
 
-  call-follows :
-      (text : List ℕ) (m : Macros) (f : Frame) (d k line : ℕ)
-      → call j text m (movedFrame v f) d k line beside call free text m f d k line
-  unfolding call
-  call-follows text m f zero k line s n n′ = follows-need 10 line (alike {t = isStored m k}) refusals
-  call-follows text m f (suc d) k line s n n′ =
-      follows-need 10 line (alike {t = isStored m k})
-      (runLines-follow f (call j text m (movedFrame v f) d) (call free text m f d) (call-follows text m f d)
-      (lines (body text m k)) (firstLine m k) s n n′)
+  module _ (bodies bodies′ : Bodies) (same : (k : ℕ) → bytesOf (bodies k) ≡ bytesOf (bodies′ k)) where
+    -- what is called, if it is stored: its lines
+    called-follows :
+        (o o′ : Option Body) → bytesOf o ≡ bytesOf o′ → (line line′ : ℕ) (x y : Body → Progress → Out (Made Progress))
+        → ((b b′ : Body) → b .bytes ≡ b′ .bytes → x b beside y b′)
+        → (λ g. _>>=_ (given o 10 line) (λ b. x b g)) beside (λ g. _>>=_ (given o′ 10 line′) (λ b. y b g))
+    called-follows none none e line line′ x y r s n n′ = refusals
+    called-follows none (some b′) e line line′ x y r s n n′ = let z : _≡_ {A = ℕ} 0 1 = cc in absurd (omega arith)
+    called-follows (some b) none e line line′ x y r s n n′ = let z : _≡_ {A = ℕ} 0 1 = cc in absurd (omega arith)
+    called-follows (some b) (some b′) e line line′ x y r s n n′ = r b b′ (let h : some (b .bytes) ≡ some (b′ .bytes) = e in cc) s n n′
 
-  -- a body carried out in a call
-  pub runBody-follows :
-      (text : List ℕ) (m : Macros) (d : ℕ) (f : Frame) (line : ℕ) (bs : List ℕ)
-      → Beside E j v (runBody j text m d (movedFrame v f) line bs) (runBody (unlimited bounds) text m d f line bs)
-  unfolding runBody
-  runBody-follows text m d f line bs =
-      runLines-follow f (call j text m (movedFrame v f) d) (call free text m f d) (call-follows text m f d) (lines bs) line
+    call-follows : (d : ℕ) (f : Frame) (k line line′ : ℕ) → call j bodies d (moved f) k line beside call free bodies′ d f k line′
+    unfolding call
+    call-follows zero f k line line′ =
+        called-follows (bodies k) (bodies′ k) (same k) line line′ (λ b g. refused 11 line) (λ b g. refused 11 line′) (λ b b′ e s n n′. refusals)
+    call-follows (suc d) f k line line′ =
+        called-follows (bodies k) (bodies′ k) (same k) line line′
+        (λ b g. runLines j (call j bodies d) (moved f) (b .line) (lines (b .bytes)) g)
+        (λ b g. runLines free (call free bodies′ d) f (b .line) (lines (b .bytes)) g)
+        (λ b b′ e. rw (ap lines e) (runLines-follow f (call j bodies d) (call free bodies′ d) (call-follows d) (lines (b′ .bytes)) (b .line) (b′ .line)))
+
+    -- a body carried out in a call
+    pub runBody-follows :
+        (d : ℕ) (f : Frame) (b b′ : Body) → b .bytes ≡ b′ .bytes
+        → Beside E j v (runBody j bodies d (movedFrame v job f) b) (runBody (unlimited bounds) bodies′ d f b′)
+    unfolding runBody
+    runBody-follows d f b b′ e =
+        rw (ap lines e) (runLines-follow f (call j bodies d) (call free bodies′ d) (call-follows d) (lines (b′ .bytes)) (b .line) (b′ .line))

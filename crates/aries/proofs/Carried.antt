@@ -1,32 +1,33 @@
 -- Laws of `Carried`: what a function hands back, told outright, against what the definitions make.
 use mathlib.Core.Path.{_≡_}
-use mathlib.Core.List.{List}
-use Prim.Native.Nat.{ℕ, _+_, _*_, _≤_}
-use lib.IntN.{ℤ}
+use Prim.Native.Nat.{ℕ, _+_, _≤_}
 use lib.ListN.{length}
+use Rattle.aries.specs.declared.state.Frame.{Frame}
 use Rattle.aries.specs.declared.state.Status.the-variants.{Passed, Refused}
 use Rattle.aries.specs.declared.state.Outcome.{Outcome}
 use Rattle.aries.specs.declared.state.Progress.{Progress}
 use Rattle.aries.specs.Outcome.{Out, done, refused}
 use Rattle.aries.specs.Hits.{Made, still}
-use Rattle.aries.specs.Runs.{over, Carried}
+use Rattle.aries.specs.Judging.{Judging, limits}
+use Rattle.aries.specs.Runs.{Lent, over, Carried}
 use Rattle.aries.proofs.Runs.{ran-refused, ran-made, ran-still}
 
-abbrev hitsOf : Progress → ℕ
-hitsOf g = g .hits
+module _ (f : Frame) (what : Judging → Progress → Out (Made Progress)) where
+  -- a refusal on both sides
+  pub carried-refused :
+      {r : Outcome} {left g : Progress} {before after : Lent} {number line : ℕ} → r ≡ record { status = Refused number line; progress = left }
+      → what (limits (f .job)) g ≡ refused number line → Carried r f before after g what
+  carried-refused e o = rw (e, o) ran-refused
 
--- a refusal on both sides
-pub carried-refused : (r : Outcome) (left : Progress) (before after : List ℤ) (k number line : ℕ) (out : Out (Made Progress))
-    → r ≡ record { status = Refused number line; progress = left } → out ≡ refused number line → Carried r before after k out
-carried-refused r left before after k number line out e o = rw (e, o) (ran-refused hitsOf left before after k number line)
+  -- nothing is hit
+  pub carried-still :
+      {r : Outcome} {g left : Progress} {l : Lent} → r ≡ record { status = Passed; progress = left }
+      → left .hits ≡ g .hits → what (limits (f .job)) g ≡ still left → Carried r f l l g what
+  carried-still e h o = rw (e, o, ← h) ran-still
 
--- nothing is hit
-pub carried-still : (r : Outcome) (g : Progress) (list : List ℤ) (out : Out (Made Progress))
-    → r ≡ record { status = Passed; progress = g } → out ≡ still g → Carried r list list (g .hits) out
-carried-still r g list out e o = rw (e, o) (ran-still hitsOf g list)
-
--- hits and a progress that are made outright
-pub carried-made : (r : Outcome) (m : Made Progress) (before after : List ℤ) (k : ℕ) (out : Out (Made Progress))
-    → r ≡ record { status = Passed; progress = m .after } → out ≡ done m → after ≡ over before k (m .hits) → m .after .hits ≡ k + length (m .hits)
-    → (4 * k ≤ length before → 4 * m .after .hits ≤ length before) → Carried r before after k out
-carried-made r m before after k out e o written counted fitted = rw (e, o) (ran-made hitsOf m before after k written counted fitted)
+  -- hits and a progress that are made outright
+  pub carried-made :
+      {r : Outcome} {m : Made Progress} {g : Progress} {before after : Lent} → r ≡ record { status = Passed; progress = m .after }
+      → what (limits (f .job)) g ≡ done m → after ≡ over before (g .hits) (m .hits) → m .after .hits ≡ g .hits + length (m .hits)
+      → (g .hits ≤ f .job .places → m .after .hits ≤ f .job .places) → Carried r f before after g what
+  carried-made e o written counted fitted = rw (e, o) (ran-made written counted fitted)

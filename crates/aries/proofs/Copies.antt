@@ -10,35 +10,35 @@ use Rattle.aries.specs.declared.point.Point.{Point}
 use Rattle.aries.specs.declared.state.Progress.{Progress}
 use Rattle.aries.specs.Outcome.{Out, done}
 use Rattle.aries.specs.Hits.{Made}
-use Rattle.aries.specs.Judging.{Judging, near, lent}
-use Rattle.aries.specs.Layouts.{partOf, copy, copyAll}
+use Rattle.aries.specs.Judging.{Judging, near, limits}
+use Rattle.aries.specs.Macros.{runBody}
+use Rattle.aries.specs.Layouts.{copy, copyAll}
 use Rattle.aries.specs.Setup.{ordinaryFrame}
-use Rattle.aries.specs.CopyRuns.{Circumstances, Accepted, hitsOf, movedBy, joined}
+use Rattle.aries.specs.CopyRuns.{Circumstances, called, Accepted, hitsOf, movedBy, joined, SamePart}
 use Rattle.aries.proofs.Outcomes.{done-injective, need-accepted, Both, then-accepted, accepted-then}
 use Rattle.aries.proofs.Counts.{Counts, countsOf, nothing, _⊞_, times, times-suc, Up, up-unique, Fit, fit-nothing, fit-front, fit-back, fit-joined}
 use Rattle.aries.proofs.Follows.{Followed, follows-accepted, follows-fitting}
 use Rattle.aries.proofs.BodyRuns.{unlimited}
-use Rattle.aries.proofs.Parts.{partAt, ownRun, part-own, part-bounds}
+use Rattle.aries.proofs.Parts.{partAt, ownFrom, same-part, part-own, part-bounds}
 
-module _ (c : Circumstances) where
-  -- what the run judges
-  abbrev pub limits : Judging
-  limits = lent (c .numbers)
+-- what a run judges
+abbrev pub judging : Circumstances → Judging
+judging c = limits (c .setup .job)
 
-  -- one copy, and copies m, m + 1, .., so many of them
-  abbrev copyTo : Point → Progress → Out (Made Progress)
-  copyTo p g =
-      copy limits (partOf limits (c .text) (c .setup) (c .part)) (ordinaryFrame (c .setup)) (c .line) (c .before .state) p g
+-- one copy of its part, and copies m, m + 1, .., so many of them
+abbrev pub copyTo : Circumstances → Point → Progress → Out (Made Progress)
+copyTo c p g = copy (judging c) (called (judging c) c (c .bodies (c .part))) (ordinaryFrame (c .setup)) (c .line) (c .before .state) p g
 
-  abbrev pub copies : (ℕ → Point) → ℕ → ℕ → Progress → Out (Made Progress)
-  copies place k m g =
-      copyAll limits (partOf limits (c .text) (c .setup) (c .part)) (ordinaryFrame (c .setup)) (c .line) (c .before .state) place k m g
+abbrev pub copies : Circumstances → (ℕ → Point) → ℕ → ℕ → Progress → Out (Made Progress)
+copies c place k m g =
+    copyAll (judging c) (called (judging c) c (c .bodies (c .part))) (ordinaryFrame (c .setup)) (c .line) (c .before .state) place k m g
 
+-- ---- What the own run tells
+
+module _ (base : Circumstances) where
   -- the part at a place by bounds alone, from nothing
-  abbrev byBounds : Point → Out (Made Progress)
-  byBounds p = partAt c (unlimited true) p nothing
-
-  -- ---- One copy
+  abbrev pub byBounds : Point → Out (Made Progress)
+  byBounds p = partAt base (unlimited true) p nothing
 
   -- it passes by bounds alone: its place, and all that it carries out there
   pub record Passes (p : Point) : Type 0 where
@@ -49,22 +49,27 @@ module _ (c : Circumstances) where
   pub record Own (n′ : Counts) : Type 0 where
     pub result : Made Progress
     pub by : Counts
-    pub result-is : ownRun c n′ ≡ done result
+    pub result-is : ownFrom base n′ ≡ done result
     pub up : Up n′ (countsOf (result .after)) by
+
+-- ---- The copies of a run beside the own run of one with the same part
+
+module _ (c base : Circumstances) (same : SamePart c base) where
+  -- ---- One copy
 
   -- one that was accepted, beside the own run from other counts
   pub record Copied (p : Point) (n n′ : Counts) (m : Made Progress) : Type 0 where
-    pub own : Followed limits p n n′ m (ownRun c n′)
-    pub passes : Passes p
+    pub own : Followed (judging c) p n n′ m (ownFrom base n′)
+    pub passes : Passes base p
 
-  copy-accepted : (p : Point) (g : Progress) (n′ : Counts) (m : Made Progress) → copyTo p g ≡ done m → Copied p (countsOf g) n′ m
+  copy-accepted : (p : Point) (g : Progress) (n′ : Counts) (m : Made Progress) → copyTo c p g ≡ done m → Copied p (countsOf g) n′ m
   unfolding copy
   copy-accepted p g n′ m e =
       let n = countsOf g in
-      let q = need-accepted (near p) 15 (c .line) (partAt c limits p n) m e in
-      let b = follows-accepted (partAt c limits p n) (byBounds p) m (q .1) (part-bounds c limits p n nothing) in
+      let q = need-accepted (near p) 15 (c .line) (partAt c (judging c) p n) m e in
+      let b = follows-accepted (partAt c (judging c) p n) (byBounds base p) m (q .1) (part-bounds c base same (judging c) p n nothing) in
       record {
-        own = follows-accepted (partAt c limits p n) (ownRun c n′) m (q .1) (part-own c limits p n n′);
+        own = follows-accepted (partAt c (judging c) p n) (ownFrom base n′) m (q .1) (part-own c base same (judging c) p n n′);
         passes = record { is-near = q .0; is-accepted = (b .other, b .other-is) };
       }
 
@@ -73,14 +78,14 @@ module _ (c : Circumstances) where
   module _ (place : ℕ → Point) where
     -- the first copy and the others
     parted :
-        (k m : ℕ) (g : Progress) (r : Made Progress) → copies place (suc k) m g ≡ done r → Both (copyTo (place m) g) (copies place k (suc m)) r
+        (k m : ℕ) (g : Progress) (r : Made Progress) → copies c place (suc k) m g ≡ done r → Both (copyTo c (place m) g) (copies c place k (suc m)) r
     unfolding copyAll
-    parted k m g r e = then-accepted (copyTo (place m) g) (copies place k (suc m)) r e
+    parted k m g r e = then-accepted (copyTo c (place m) g) (copies c place k (suc m)) r e
 
     -- for each m in turn, the own hits moved to its place
     pub copies-hits :
-        (n′ : Counts) (k m : ℕ) (g : Progress) (r : Made Progress) → copies place k m g ≡ done r
-        → r .hits ≡ joined (λ i. map (movedBy (place i)) (hitsOf (ownRun c n′))) k m
+        (n′ : Counts) (k m : ℕ) (g : Progress) (r : Made Progress) → copies c place k m g ≡ done r
+        → r .hits ≡ joined (λ i. map (movedBy (place i)) (hitsOf (ownFrom base n′))) k m
     unfolding copyAll joined
     copies-hits n′ zero m g r e = sym (ap hitsOf e)
     copies-hits n′ (suc k) m g r e =
@@ -91,7 +96,7 @@ module _ (c : Circumstances) where
         (copies-hits n′ k (suc m) (t .first .after) (t .second) (t .second-is))
 
     -- where there are copies and they are accepted, so is the own run
-    pub copies-own : (n′ : Counts) (k m : ℕ) (g : Progress) (r : Made Progress) → 0 < k → copies place k m g ≡ done r → Own n′
+    pub copies-own : (n′ : Counts) (k m : ℕ) (g : Progress) (r : Made Progress) → 0 < k → copies c place k m g ≡ done r → Own base n′
     copies-own n′ zero m g r p e = absurd (omega arith)
     copies-own n′ (suc k) m g r p e =
         let t = parted k m g r e in
@@ -100,26 +105,26 @@ module _ (c : Circumstances) where
 
   -- ---- When they are accepted
 
-  module _ (n′ : Counts) (w : Own n′) where
+  module _ (n′ : Counts) (w : Own base n′) where
     -- whatever goes along with the own run counts as many
-    counts-as-own : {j : Judging} {v : Point} {n : Counts} {m : Made Progress} (o : Followed j v n n′ m (ownRun c n′)) → o .by ≡ w .by
+    counts-as-own : {j : Judging} {v : Point} {n : Counts} {m : Made Progress} (o : Followed j v n n′ m (ownFrom base n′)) → o .by ≡ w .by
     counts-as-own o =
         up-unique (o .together .up′)
         (subst (λ (m : Made Progress). Up n′ (countsOf (m .after)) (w .by)) (done-injective _ _ (sym (w .result-is) ∙ o .other-is)) (w .up))
 
     -- every copy passes by bounds, and what all of them count fits
     pub record AllPass (place : ℕ → Point) (k m : ℕ) (n : Counts) : Type 0 where
-      pub passing : (i : ℕ) → m ≤ i → i < m + k → Passes (place i)
-      pub fit : Fit limits n (times k (w .by))
+      pub passing : (i : ℕ) → m ≤ i → i < m + k → Passes base (place i)
+      pub fit : Fit (judging c) n (times k (w .by))
 
     -- an accepted copy goes up as the own run does, which fits
-    copy-fits : {p : Point} {n : Counts} {m : Made Progress} → Copied p n n′ m → Up n (countsOf (m .after)) (w .by) × Fit limits n (w .by)
+    copy-fits : {p : Point} {n : Counts} {m : Made Progress} → Copied p n n′ m → Up n (countsOf (m .after)) (w .by) × Fit (judging c) n (w .by)
     copy-fits {n = n} {m = m} x =
         let e = counts-as-own (x .own) in
-        (subst (Up n (countsOf (m .after))) e (x .own .together .up), subst (Fit limits n) e (x .own .together .fit))
+        (subst (Up n (countsOf (m .after))) e (x .own .together .up), subst (Fit (judging c) n) e (x .own .together .fit))
 
     pub copies-accepted :
-        (place : ℕ → Point) (k m : ℕ) (g : Progress) (r : Made Progress) → copies place k m g ≡ done r → AllPass place k m (countsOf g)
+        (place : ℕ → Point) (k m : ℕ) (g : Progress) (r : Made Progress) → copies c place k m g ≡ done r → AllPass place k m (countsOf g)
     copies-accepted place zero m g r e = record { passing = λ i p q. absurd (omega arith); fit = fit-nothing (omega arith) (omega arith) }
     copies-accepted place (suc k) m g r e =
         let t = parted place k m g r e in
@@ -128,38 +133,38 @@ module _ (c : Circumstances) where
         let y = copies-accepted place k (suc m) (t .first .after) (t .second) (t .second-is) in
         record {
           passing = λ i p q. go (x .passes) (y .passing) i p q (ltb m i) refl;
-          fit = subst (Fit limits (countsOf g)) (sym (times-suc k (w .by))) (fit-joined (w .by) (times k (w .by)) (u .0) (u .1) (y .fit));
+          fit = subst (Fit (judging c) (countsOf g)) (sym (times-suc k (w .by))) (fit-joined (w .by) (times k (w .by)) (u .0) (u .1) (y .fit));
         }
       where
         go :
-            Passes (place m) → ((i : ℕ) → suc m ≤ i → i < suc m + k → Passes (place i))
-            → (i : ℕ) → m ≤ i → i < m + suc k → (later : Bool) → ltb m i ≡ later → Passes (place i)
+            Passes base (place m) → ((i : ℕ) → suc m ≤ i → i < suc m + k → Passes base (place i))
+            → (i : ℕ) → m ≤ i → i < m + suc k → (later : Bool) → ltb m i ≡ later → Passes base (place i)
         go x y i p q true e = y i (ltb-true m i e) (omega arith)
         go x y i p q false e =
             let d : m ≡ i = let l : i ≤ m = ltb-false m i e in omega arith in
-            subst (λ (i : ℕ). Passes (place i)) d x
+            subst (λ (i : ℕ). Passes base (place i)) d x
 
     -- a copy that passes by bounds is accepted where what it counts fits
-    copy-fitting : (p : Point) (g : Progress) → Passes p → Fit limits (countsOf g) (w .by) → Accepted (copyTo p g)
+    copy-fitting : (p : Point) (g : Progress) → Passes base p → Fit (judging c) (countsOf g) (w .by) → Accepted (copyTo c p g)
     unfolding copy
     copy-fitting p g x f =
         let n = countsOf g in
         let m = x .is-accepted .0 in
         let e = x .is-accepted .1 in
-        let o = follows-accepted (byBounds p) (ownRun c n′) m e (part-own c (unlimited true) p nothing n′) in
+        let o = follows-accepted (byBounds base p) (ownFrom base n′) m e (part-own base base (same-part base) (unlimited true) p nothing n′) in
         rw (x .is-near)
-        (follows-fitting (partAt c limits p n) (byBounds p) m e (part-bounds c limits p n nothing) tt
-        (λ d u. subst (Fit limits n) (sym (counts-as-own o) ∙ up-unique (o .together .up) u) f))
+        (follows-fitting (partAt c (judging c) p n) (byBounds base p) m e (part-bounds c base same (judging c) p n nothing) tt
+        (λ d u. subst (Fit (judging c) n) (sym (counts-as-own o) ∙ up-unique (o .together .up) u) f))
 
-    pub accepted-copies : (place : ℕ → Point) (k m : ℕ) (g : Progress) → AllPass place k m (countsOf g) → Accepted (copies place k m g)
+    pub accepted-copies : (place : ℕ → Point) (k m : ℕ) (g : Progress) → AllPass place k m (countsOf g) → Accepted (copies c place k m g)
     unfolding copyAll
     accepted-copies place zero m g x = (record { hits = []; after = g }, refl)
     accepted-copies place (suc k) m g x =
-        let f : Fit limits (countsOf g) (w .by ⊞ times k (w .by)) = subst (Fit limits (countsOf g)) (times-suc k (w .by)) (x .fit) in
+        let f : Fit (judging c) (countsOf g) (w .by ⊞ times k (w .by)) = subst (Fit (judging c) (countsOf g)) (times-suc k (w .by)) (x .fit) in
         let y = copy-fitting (place m) g (x .passing m (omega arith) (omega arith)) (fit-front (w .by) (times k (w .by)) f) in
         let u = copy-fits (copy-accepted (place m) g n′ (y .0) (y .1)) in
         let z = accepted-copies place k (suc m) (y .0 .after)
         (record { passing = λ i p q. x .passing i (omega arith) (omega arith); fit = fit-back (w .by) (times k (w .by)) (u .0) f }) in (
           record { hits = y .0 .hits ++ z .0 .hits; after = z .0 .after },
-          accepted-then (copyTo (place m) g) (copies place k (suc m)) (y .0) (z .0) (y .1) (z .1),
+          accepted-then (copyTo c (place m) g) (copies c place k (suc m)) (y .0) (z .0) (y .1) (z .1),
         )

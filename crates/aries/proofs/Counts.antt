@@ -1,10 +1,10 @@
 -- Counts of blocks and hits: how far they go up, and whether what is added fits under the limits.
 use mathlib.Core.Path.{_≡_, refl, ap₂, subst}
 use mathlib.Core.Bool.{Bool, true, false}
-use mathlib.Core.Option.{Option}
+use mathlib.Core.Option.{Option, some}
 use Prim.Native.Nat.{ℕ, suc, _+_, _*_, _-_, _<_, _≤_}
 use native.Mathlib.Omega.{arith}
-use borrow.Author.Tests.{ltb-true, ltb-false}
+use borrow.Author.Tests.{lt-ltb, ltb-true, ltb-false}
 use lib.Dec.{ltb}
 use Rattle.aries.specs.declared.state.Progress.{Progress}
 use Rattle.aries.specs.Judging.{Judging, room}
@@ -125,6 +125,12 @@ fits-joined most count a b later e f g = record { fits = λ i h. go i h (ltb i a
     go i h false p =
         let n : a ≤ i = ltb-false i a p in
         subst (λ (k : ℕ). room most k ≡ true) (same i n) (g .fits (i - a) (omega arith))
+
+-- with as many free, as many fit
+pub fits-free :
+    (most most′ count count′ more : ℕ) → most - count ≡ most′ - count′ → Fits (some most) count more → Fits (some most′) count′ more
+fits-free most most′ count count′ more e f =
+    record { fits = λ i h. lt-ltb (count′ + i) most′ (let l = ltb-true (count + i) most (f .fits i h) in omega arith) }
 
 -- ---- Fitting under both
 

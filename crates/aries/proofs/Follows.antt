@@ -5,6 +5,7 @@ use mathlib.Core.Path.{_≡_, refl, sym, _∙_, subst}
 use mathlib.Core.Bool.{Bool, true, false, true≢false}
 use mathlib.Core.List.{List, [], _∷_, _++_, map, map-append}
 use Prim.Native.Nat.{ℕ}
+use Rattle.aries.specs.declared.job.Job.{Job}
 use Rattle.aries.specs.declared.point.Point.{Point}
 use Rattle.aries.specs.declared.state.Waiting.{Waiting}
 use Rattle.aries.specs.declared.state.Waiting.the-variants.{Unset, At}
@@ -36,8 +37,9 @@ movedState v s =
       memories = s .memories;
     }
 
-abbrev pub movedFrame : Point → Frame → Frame
-movedFrame v f = record { machine = f .machine; origin = f .origin ⊕ v }
+-- the origin, whatever the job
+abbrev pub movedFrame : Point → Job → Frame → Frame
+movedFrame v job f = record { job = job; machine = f .machine; origin = f .origin ⊕ v }
 
 -- ---- A state with counts
 
@@ -83,11 +85,11 @@ module _ {E : Type 0} {j : Judging} {v : Point} where
 
   -- past a test
   pub follows-need :
-      {n n′ : Counts} {x y : Out (Made Progress)} {t t′ : Bool} (number line : ℕ) → Looser E t t′ → Follows E j v n n′ x y
-      → Follows E j v n n′ (_>>=_ (need t number line) (λ _. x)) (_>>=_ (need t′ number line) (λ _. y))
-  follows-need number line (alike {t = true}) r = r
-  follows-need number line (alike {t = false}) r = refusals
-  follows-need number line (dropped e) r = follows-refused number line e r
+      {n n′ : Counts} {x y : Out (Made Progress)} {t t′ : Bool} (number line line′ : ℕ) → Looser E t t′ → Follows E j v n n′ x y
+      → Follows E j v n n′ (_>>=_ (need t number line) (λ _. x)) (_>>=_ (need t′ number line′) (λ _. y))
+  follows-need number line line′ (alike {t = true}) r = r
+  follows-need number line line′ (alike {t = false}) r = refusals
+  follows-need number line line′ (dropped e) r = follows-refused number line e r
 
   -- hits, and then what is made
   follows-adding :

@@ -19,7 +19,6 @@ pub mod Orders
 pub mod BothOrNeither
 -- What makes them theorems about programs.
 pub mod Kept
-pub mod Ordinary
 pub mod CopyBlocks
 -- Laws that the functions' proofs cite.
 pub mod Advanced

@@ -17,6 +17,8 @@ use Rattle.aries.specs.CopyRuns.{run, hitsOf, ownHits, movedBy, joined, 
 use Rattle.aries.proofs.Points.{+ℤ-cancel-left}
 use Rattle.aries.proofs.Joined.{joined-cong, joined-second}
 use Rattle.aries.proofs.Lanes.{lane-first, along-first, lane-single, along-single}
+use Rattle.aries.proofs.Counts.{countsOf}
+use Rattle.aries.proofs.Parts.{same-part, parts-turned}
 use Rattle.aries.proofs.CopyRuns.{run-hits}
 
 -- ---- Places
@@ -135,12 +137,14 @@ module _ (origin : Point) (l : Layout) (q : ℕ) (own : List Hit) where
 -- ---- The statement
 
 pub equal-exactly-when : EqualExactlyWhen
-unfolding run copyPlace copyIn placeIn
-equal-exactly-when c l s (m, e) (m′, e′) =
+unfolding run copyPlace copyIn placeIn ownHits
+equal-exactly-when c d l r s (m, e) (m′, e′) =
     (λ h. equal-alike (c .setup .origin) l (c .corner) (ownHits c) (sym g75 ∙ h ∙ g76), λ a. g75 ∙ alike-equal (c .setup .origin) l (c .corner) (ownHits c) a ∙ sym g76)
   where
     g75 : hitsOf (run false c) ≡ allIn (c .setup .origin) l (c .corner) (ownHits c) false
-    g75 = run-hits false c m e l s
+    g75 = run-hits false c m e c (same-part c) (countsOf (c .before)) l s
 
-    g76 : hitsOf (run true c) ≡ allIn (c .setup .origin) l (c .corner) (ownHits c) true
-    g76 = run-hits true c m′ e′ l s
+    g76 : hitsOf (run true d) ≡ allIn (c .setup .origin) l (c .corner) (ownHits c) true
+    g76 =
+        run-hits true d m′ e′ c (parts-turned (r .parts)) (countsOf (c .before)) l (sym (r .sheet) ∙ s)
+        ∙ ap₂ (λ (o : Point) (q : ℕ). allIn o l q (ownHits c) true) (sym (r .origin)) (sym (r .corner))

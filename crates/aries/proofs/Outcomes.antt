@@ -20,6 +20,11 @@ resultOr a (done b) = b
 pub done-injective : {A : Type 0} (a b : A) → done a ≡ done b → a ≡ b
 done-injective a b e = ap (resultOr a) e
 
+-- one thing and another, and then a third
+pub >>=-assoc : {A B C : Type 0} (x : Out A) (f : A → Out B) (g : B → Out C) → _>>=_ (_>>=_ x f) g ≡ _>>=_ x (λ a. _>>=_ (f a) g)
+>>=-assoc (done a) f g = refl
+>>=-assoc (refused number line) f g = refl
+
 -- what goes on past a test has passed it
 pub need-accepted :
     {A : Type 0} (t : Bool) (number line : ℕ) (x : Out A) (a : A) → _>>=_ (need t number line) (λ _. x) ≡ done a → (t ≡ true) × (x ≡ done a)

@@ -1,32 +1,37 @@
--- The part of a run, carried out once at a place: it is the part's own run at (0, 0) moved, where it is accepted, and it is
--- accepted where it is by bounds alone and what it counts fits.
-use mathlib.Core.Path.{sym, subst}
+-- The part of a run, carried out once at a place: it is the own run at (0, 0) moved, where it is accepted, and it is accepted
+-- where it is by bounds alone and what it counts fits. The own run may be that of another run of the same part.
+use mathlib.Core.Path.{_≡_, refl, sym, ap, _∙_, subst, subst₂}
 use mathlib.Core.Bool.{Bool, true, false}
-use Prim.Native.Nat.{_-_}
+use mathlib.Core.Option.{Option, none, some}
+use Prim.Native.Nat.{ℕ, _-_}
+use native.Mathlib.Omega.{arith}
+use Rattle.aries.specs.declared.job.Job.{Job}
+use Rattle.aries.specs.declared.machine.Machine.{Machine}
 use Rattle.aries.specs.declared.point.Point.{Point}
+use Rattle.aries.specs.declared.state.State.{State}
 use Rattle.aries.specs.declared.state.Progress.{Progress}
 use Rattle.aries.specs.Outcome.{Out}
 use Rattle.aries.specs.Hits.{Made}
-use Rattle.aries.specs.Machine.{covers}
-use Rattle.aries.specs.Judging.{Judging, judged, near, unjudged}
+use Rattle.aries.specs.Machine.{inRange}
+use Rattle.aries.specs.Judging.{Judging, limits, judged, near, unjudged}
 use Rattle.aries.specs.Moves.{zeroPoint, _⊕_}
-use Rattle.aries.specs.Macros.{firstLine, body, mostCalls, runBody}
-use Rattle.aries.specs.Layouts.{copyStart, frameAt, partOf}
-use Rattle.aries.specs.Setup.{ordinaryFrame}
-use Rattle.aries.specs.CopyRuns.{Circumstances}
+use Rattle.aries.specs.Macros.{Body, mostCalls, runBody}
+use Rattle.aries.specs.Layouts.{copyStart}
+use Rattle.aries.specs.Setup.{ordinaryFrame, frameAt}
+use Rattle.aries.specs.CopyRuns.{Circumstances, bytesOf, called, SamePart, AllAlike}
 use Rattle.aries.proofs.Points.{zero-⊕, ⊕-zero}
-use Rattle.aries.proofs.Counts.{Counts}
-use Rattle.aries.proofs.Follows.{progress, Looser, alike, dropped, Follows}
+use Rattle.aries.proofs.Counts.{Counts, countsOf, Fit, fits-free}
+use Rattle.aries.proofs.Follows.{movedFrame, progress, Looser, alike, dropped, Follows, refusals}
 use Rattle.aries.proofs.BodyRuns.{Bounds, unlimited, runBody-follows}
 
 -- ---- Bounds judged or not
 
 -- whatever is judged, against nothing judged
-bounds-dropped : (j : Judging) (v : Point) → Bounds ⊥ j false v
-bounds-dropped j v =
+bounds-dropped : (j : Judging) (v : Point) (job : Job) → Bounds ⊥ j false v job
+bounds-dropped j v job =
     record {
       nearness = λ p. go (judged (j .bounds) (near (p ⊕ v)));
-      coverage = λ m p. go (judged (j .bounds) (covers m (p ⊕ v)));
+      coverage = λ f p. go (judged (j .bounds) (inRange (movedFrame v job f) (p ⊕ v)));
       reach = λ t. go (judged (j .bounds) t);
     }
   where
@@ -35,38 +40,95 @@ bounds-dropped j v =
     go false = dropped (λ i. i)
 
 -- against the same bounds, at the same place
-bounds-alike : (j : Judging) → Bounds (Unit {0}) j (j .bounds) zeroPoint
-bounds-alike j = record { nearness = λ p. same near p; coverage = λ m p. same (covers m) p; reach = λ t. alike }
+bounds-alike : (j : Judging) (job : Job) → Bounds (Unit {0}) j (j .bounds) zeroPoint job
+bounds-alike j job = record { nearness = λ p. same near p; coverage = λ f p. same (inRange f) p; reach = λ t. alike }
   where
     same : (test : Point → Bool) (p : Point) → Looser (Unit {0}) (judged (j .bounds) (test (p ⊕ zeroPoint))) (judged (j .bounds) (test p))
     same test p = subst (λ (q : Point). Looser (Unit {0}) (judged (j .bounds) (test q)) (judged (j .bounds) (test p))) (sym (⊕-zero p)) alike
 
 -- ---- A copy at a place
 
-module _ (c : Circumstances) where
-  -- the part at a place, from counts
-  abbrev pub partAt : Judging → Point → Counts → Out (Made Progress)
-  partAt j p n =
-      partOf j (c .text) (c .setup) (c .part) (frameAt (ordinaryFrame (c .setup)) p) (progress (copyStart (c .before .state) p) n)
+-- the part at a place, from counts
+abbrev pub partAt : Circumstances → Judging → Point → Counts → Out (Made Progress)
+partAt c j p n = called j c (c .bodies (c .part)) (frameAt (ordinaryFrame (c .setup)) p) (progress (copyStart (c .before .state) p) n)
 
-  -- the part's own run
-  abbrev pub ownRun : Counts → Out (Made Progress)
-  ownRun n = partAt unjudged zeroPoint n
+-- the own run, from counts
+abbrev pub ownFrom : Circumstances → Counts → Out (Made Progress)
+ownFrom c n = partAt c unjudged zeroPoint n
+
+-- a run has the same part as itself
+pub same-part : (c : Circumstances) → SamePart c c
+same-part c = record { machine = refl; state = refl; bodies = λ n. refl; part = refl }
+
+pub parts-turned : {c d : Circumstances} → SamePart c d → SamePart d c
+parts-turned r = record { machine = sym (r .machine); state = sym (r .state); bodies = λ n. sym (r .bodies n); part = sym (r .part) }
+
+module _ (c o : Circumstances) (same : SamePart c o) where
+  -- the part of one run at a moved place, beside that of the other
+  part-follows :
+      {E : Type 0} (j : Judging) (bounds : Bool) (v q : Point) (n n′ : Counts) → Bounds E j bounds v (c .setup .job)
+      → Follows E j v n n′ (partAt c j (q ⊕ v) n) (partAt o (unlimited bounds) q n′)
+  unfolding runBody
+  part-follows {E} j bounds v q n n′ w =
+      subst₂
+      (λ (m : Machine) (s : State). Follows E j v n n′ (called j c (c .bodies (c .part)) (record { job = c .setup .job; machine = m; origin = q ⊕ v }) (progress (copyStart s (q ⊕ v)) n)) (partAt o (unlimited bounds) q n′))
+      (sym (same .machine))
+      (sym (same .state))
+      (go (c .bodies (c .part)) (o .bodies (o .part)) (same .part))
+    where
+      go :
+          (x y : Option Body) → bytesOf x ≡ bytesOf y
+          → Follows E j v n n′
+          (called j c x (movedFrame v (c .setup .job) (frameAt (ordinaryFrame (o .setup)) q)) (progress (copyStart (o .before .state) (q ⊕ v)) n))
+          (called (unlimited bounds) o y (frameAt (ordinaryFrame (o .setup)) q) (progress (copyStart (o .before .state) q) n′))
+      go none none e = refusals
+      go none (some b) e = let z : _≡_ {A = ℕ} 0 1 = cc in absurd (omega arith)
+      go (some a) none e = let z : _≡_ {A = ℕ} 0 1 = cc in absurd (omega arith)
+      go (some a) (some b) e =
+          runBody-follows j bounds v (c .setup .job) w (c .bodies) (o .bodies) (same .bodies) (mostCalls - 1) (frameAt (ordinaryFrame (o .setup)) q) a b
+          (let h : some (a .bytes) ≡ some (b .bytes) = e in cc) (copyStart (o .before .state) q) n n′
 
   -- where it is accepted, it is the own run moved
-  pub part-own : (j : Judging) (p : Point) (n n′ : Counts) → Follows ⊥ j p n n′ (partAt j p n) (ownRun n′)
-  unfolding runBody body
+  pub part-own : (j : Judging) (p : Point) (n n′ : Counts) → Follows ⊥ j p n n′ (partAt c j p n) (ownFrom o n′)
+  unfolding runBody
   part-own j p n n′ =
-      subst (λ (q : Point). Follows ⊥ j p n n′ (partAt j q n) (ownRun n′)) (zero-⊕ p)
-      (runBody-follows j false p (bounds-dropped j p) (c .text) (c .setup .macros) (mostCalls - 1) (frameAt (ordinaryFrame (c .setup)) zeroPoint)
-      (firstLine (c .setup .macros) (c .part)) (body (c .text) (c .setup .macros) (c .part)) (copyStart (c .before .state) zeroPoint) n n′)
+      subst (λ (q : Point). Follows ⊥ j p n n′ (partAt c j q n) (ownFrom o n′)) (zero-⊕ p)
+      (part-follows j false p zeroPoint n n′ (bounds-dropped j p (c .setup .job)))
 
   -- it is accepted where it is by bounds alone and what it counts fits
   pub part-bounds :
       (j : Judging) (p : Point) (n n′ : Counts)
-      → Follows (Unit {0}) j zeroPoint n n′ (partAt j p n) (partAt (unlimited (j .bounds)) p n′)
-  unfolding runBody body
+      → Follows (Unit {0}) j zeroPoint n n′ (partAt c j p n) (partAt o (unlimited (j .bounds)) p n′)
+  unfolding runBody
   part-bounds j p n n′ =
-      subst (λ (q : Point). Follows (Unit {0}) j zeroPoint n n′ (partAt j q n) (partAt (unlimited (j .bounds)) p n′)) (⊕-zero p)
-      (runBody-follows j (j .bounds) zeroPoint (bounds-alike j) (c .text) (c .setup .macros) (mostCalls - 1) (frameAt (ordinaryFrame (c .setup)) p)
-      (firstLine (c .setup .macros) (c .part)) (body (c .text) (c .setup .macros) (c .part)) (copyStart (c .before .state) p) n n′)
+      subst (λ (q : Point). Follows (Unit {0}) j zeroPoint n n′ (partAt c j q n) (partAt o (unlimited (j .bounds)) p n′)) (⊕-zero p)
+      (part-follows j (j .bounds) zeroPoint p n n′ (bounds-alike j (c .setup .job)))
+
+-- ---- Runs that are compared
+
+pub alike-turned : {c d : Circumstances} → AllAlike c d → AllAlike d c
+alike-turned r =
+    record {
+      parts = parts-turned (r .parts);
+      sheet = sym (r .sheet);
+      origin = sym (r .origin);
+      corner = sym (r .corner);
+      blocks = sym (r .blocks);
+      free = sym (r .free);
+    }
+
+-- where the part of one is stored, so is that of the other
+pub part-stored : {c d : Circumstances} (b : Body) → c .bodies (c .part) ≡ some b → SamePart c d → (b′ : Body) × (d .bodies (d .part) ≡ some b′)
+part-stored {c} {d} b e r = go (d .bodies (d .part)) refl
+  where
+    go : (o : Option Body) → d .bodies (d .part) ≡ o → (b′ : Body) × (d .bodies (d .part) ≡ some b′)
+    go (some b′) p = (b′, p)
+    go none p = let h : bytesOf (some b) ≡ bytesOf none = sym (ap bytesOf e) ∙ r .part ∙ ap bytesOf p in let z : _≡_ {A = ℕ} 0 1 = cc in absurd (omega arith)
+
+-- what fits in one fits in the other
+pub fit-alike : {c d : Circumstances} {n : Counts} → AllAlike c d → Fit (limits (c .setup .job)) (countsOf (c .before)) n → Fit (limits (d .setup .job)) (countsOf (d .before)) n
+fit-alike {c} {d} r f =
+    record {
+      blocks = rw (r .blocks) at (f .blocks);
+      hits = fits-free (c .setup .job .places) (d .setup .job .places) (c .before .hits) (d .before .hits) _ (r .free) (f .hits);
+    }

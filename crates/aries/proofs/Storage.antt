@@ -13,7 +13,7 @@ use Rattle.aries.specs.declared.macros.Macros.{Macros}
 use Rattle.aries.specs.declared.macros.Found.{Found}
 use Rattle.aries.specs.declared.macros.Found.the-variants.{Body, Nothing}
 use Rattle.aries.specs.Test.{pick}
-use Rattle.aries.specs.Macros.{foundIn, firstLine, storing, sizes}
+use Rattle.aries.specs.Macros.{foundIn, storing, sizes}
 
 -- ---- Finding a body
 
@@ -23,7 +23,7 @@ found-none m n e = simp (le-ltb 0 (getD (m .line) n 0) (omega arith))
 pub found-out : (m : Macros) (n : ℕ) → length (m .line) ≤ n → foundIn m n ≡ Nothing
 found-out m n h = found-none m n (List·getD-eq-default (m .line) 0 h)
 
-pub found-body : (m : Macros) (n : ℕ) → (getD (m .line) n 0 ≡ 0 → ⊥) → foundIn m n ≡ Body (getD (m .start) n 0) (getD (m .end) n 0) (firstLine m n)
+pub found-body : (m : Macros) (n : ℕ) → (getD (m .line) n 0 ≡ 0 → ⊥) → foundIn m n ≡ Body (getD (m .start) n 0) (getD (m .end) n 0) (getD (m .line) n 0)
 found-body m n h = simp (lt-ltb 0 (getD (m .line) n 0) (omega arith))
 
 -- ---- Storing

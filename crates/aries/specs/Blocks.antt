@@ -21,13 +21,17 @@ use Rattle.aries.specs.declared.block.Pattern.{Pattern}
 use Rattle.aries.specs.declared.block.Pattern.the-variants.{Line, Arc, Circle, Grid}
 use Rattle.aries.specs.declared.block.Layout.{Layout}
 use Rattle.aries.specs.declared.block.Copies.{Copies}
+use Rattle.aries.specs.declared.block.Direct.{Direct}
+use Rattle.aries.specs.declared.block.Direct.the-variants as direct
+use Rattle.aries.specs.declared.block.Outside.{Outside}
+use Rattle.aries.specs.declared.block.Outside.the-variants as outside
 use Rattle.aries.specs.declared.block.Block.{Block}
 use Rattle.aries.specs.declared.block.Block.the-variants as Block
 use Rattle.aries.specs.declared.block.Measure.{Measure}
 use Rattle.aries.specs.declared.block.Measure.the-variants.{Kept, Absolute, Incremental}
 use Rattle.aries.specs.declared.block.Instruction.{Instruction}
 use Rattle.aries.specs.Letters.{letterA, letterB, letterD, letterI, letterJ, letterK, letterM, letterN, letterP, letterQ, letterT, letterU, letterV, letterW, letterX, letterY}
-use Rattle.aries.specs.Outcome.{Out, done, refused, _>>=_, need, given}
+use Rattle.aries.specs.Outcome.{Checked, passes, fails}
 use Rattle.aries.specs.Test.{both, either, within, among, every, pick}
 use Rattle.aries.specs.Text.{bytes}
 use Rattle.aries.specs.Words.{at, has, isPlain, words}
@@ -113,7 +117,6 @@ oneOfThem w (l ∷ ls) = leb 1 (present w (l ∷ ls))
 -- All that must stand there does, one of those of which one must, and nothing else: no letter stands twice, so there
 -- are no others where the words are as many as the listed letters among them.
 abbrev pub lettersFit : Words → Form → Bool
-unfolding bytes
 lettersFit w f =
     both (eqb (present w (bytes (f .must))) (length (bytes (f .must))))
     (both (oneOfThem w (bytes (f .oneOf)))
@@ -259,44 +262,53 @@ abbrev pub grid : Bool → Words → Pattern
 grid vertical w = Grid vertical (record { x = number w letterI; y = number w letterJ }) (steps w)
 
 abbrev pub run : Words → Pattern → Block
-run w p = Block.Run p (count w letterT) (count w letterA)
+run w p = Block.Direct (direct.Run p (count w letterT) (count w letterA))
 
 -- M12 and M13 set the mode; M00, M01, M08 and M09 make no hit
 abbrev pub mBlock : ℕ → Block
-mBlock n = pick (eqb n 12) (Block.Nibble true) (pick (eqb n 13) (Block.Nibble false) Block.Idle)
+mBlock n = Block.Direct (pick (eqb n 12) (direct.Nibble true) (pick (eqb n 13) (direct.Nibble false) direct.Idle))
 
+-- (a code that is unknown has been refused by 5)
 unfoldable pub blockOf : Words → Kind → Block
 blockOf w G26 = run w (circle w)
 blockOf w G28 = run w (line w)
 blockOf w G29 = run w (arc w)
 blockOf w G36 = run w (grid false w)
 blockOf w G37 = run w (grid true w)
-blockOf w G50 = Block.End
-blockOf w G70 = Block.Move (axes w) (count w letterT)
-blockOf w G72 = Block.Origin (axes w)
-blockOf w G75 = Block.Copy (copies false w)
-blockOf w G76 = Block.Copy (copies true w)
-blockOf w G92 = Block.Machine (named w)
-blockOf w G93 = Block.Offset (axes w)
-blockOf w G98 = Block.Place (layout w)
-blockOf w Position = Block.Punch (axes w) (count w letterT)
-blockOf w Lone = Block.Read
+blockOf w G50 = Block.Outside outside.End
+blockOf w G70 = Block.Direct (direct.Move (axes w) (count w letterT))
+blockOf w G72 = Block.Direct (direct.PatternOrigin (axes w))
+blockOf w G75 = Block.Outside (outside.Copy (copies false w))
+blockOf w G76 = Block.Outside (outside.Copy (copies true w))
+blockOf w G92 = Block.Outside (outside.Machine (named w))
+blockOf w G93 = Block.Outside (outside.Offset (axes w))
+blockOf w G98 = Block.Outside (outside.Layout (layout w))
+blockOf w Position = Block.Direct (direct.Punch (axes w) (count w letterT))
+blockOf w Lone = Block.Direct direct.Lone
 blockOf w LetterM = mBlock (count w letterM)
-blockOf w LetterB = Block.Recall (count w letterB)
-blockOf w LetterU = Block.Open (count w letterU)
-blockOf w LetterV = Block.Close (count w letterV)
+blockOf w LetterB = Block.Direct (direct.Recall (count w letterB))
+blockOf w LetterU = Block.Outside (outside.Open (count w letterU))
+blockOf w LetterV = Block.Outside (outside.Close (count w letterV))
 blockOf w LetterW = Block.Call (count w letterW)
-blockOf w Unknown = Block.Idle
+blockOf w Unknown = Block.Direct direct.Idle
 
 -- the G90 or G91 of a block
 unfoldable pub measureOf : Words → Measure
 measureOf w = pick (w .read) (pick (w .incremental) Incremental Absolute) Kept
 
--- the instruction of a line with a number
-unfoldable pub decode : List ℕ → ℕ → Out Instruction
-unfolding words kindOf isListed isRanged blockOf measureOf
-decode bs line = do
-  w ← given (words bs) 4 line
-  _ ← need (isListed w (kindOf w)) 5 line
-  _ ← need (isRanged w (kindOf w)) 6 line
-  done (record { measure = measureOf w; block = blockOf w (kindOf w) })
+abbrev pub instructionOf : Words → Instruction
+instructionOf w = record { measure = measureOf w; block = blockOf w (kindOf w) }
+
+-- the instruction of a block from its words: 5, then 6
+unfoldable pub decodeWords : Words → Checked Instruction
+unfolding kindOf isListed isRanged blockOf measureOf
+decodeWords w = pick (isListed w (kindOf w)) (pick (isRanged w (kindOf w)) (passes (instructionOf w)) (fails 6)) (fails 5)
+
+abbrev pub decoded : Option Words → Checked Instruction
+decoded none = fails 4
+decoded (some w) = decodeWords w
+
+-- the instruction of a line: 4, then 5 and 6
+unfoldable pub decode : List ℕ → Checked Instruction
+unfolding words decodeWords
+decode bs = decoded (words bs)

@@ -1,49 +1,60 @@
--- U and V lines: where the body of a U line ends. (Document 01, "Macros and layouts"; refusal 9.)
+-- U and V lines: where the body of a U line ends, storing it, and its first run. (Document 01, "Macros and layouts";
+-- refusals 9 and 12.)
 use mathlib.Core.Bool.{Bool, true, false}
 use mathlib.Core.List.{List, [], _∷_}
 use mathlib.Core.Option.{Option, none, some}
-use Prim.Native.Nat.{ℕ, _+_}
-use lib.Dec.{eqb}
-use lib.ListN.{length, getD}
+use Prim.Native.Nat.{ℕ, suc, _+_, _-_}
+use lib.Dec.{eqb, leb}
+use lib.ListN.{length}
+use Rattle.aries.specs.declared.block.Outside.{Outside}
+use Rattle.aries.specs.declared.block.Outside.the-variants as Outside
 use Rattle.aries.specs.declared.block.Block.{Block}
-use Rattle.aries.specs.declared.block.Block.the-variants.{Machine, End, Read, Punch, Move, Origin, Offset, Place, Run, Recall, Nibble, Idle, Open, Close, Call, Copy}
+use Rattle.aries.specs.declared.block.Block.the-variants as Block
 use Rattle.aries.specs.declared.block.Instruction.{Instruction}
-use Rattle.aries.specs.Outcome.{Out, done, refused}
+use Rattle.aries.specs.declared.macros.Macros.{Macros}
+use Rattle.aries.specs.declared.setup.Sheet.{Sheet}
+use Rattle.aries.specs.declared.setup.Sheet.the-variants.{Plain, LaidOut}
+use Rattle.aries.specs.declared.setup.Setup.{Setup}
+use Rattle.aries.specs.declared.state.Progress.{Progress}
+use Rattle.aries.specs.Outcome.{Out, done, refused, _>>=_, need, given, Checked, passes, fails}
 use Rattle.aries.specs.Test.{either, pick}
 use Rattle.aries.specs.Letters.{letterU, letterV}
+use Rattle.aries.specs.Text.{startsWith}
 use Rattle.aries.specs.Blocks.{decode}
+use Rattle.aries.specs.Hits.{Made, still, leaving}
+use Rattle.aries.specs.Judging.{Judging}
+use Rattle.aries.specs.Macros.{Body, part, bodiesOf, storing, characters, mostCalls, runBody}
+use Rattle.aries.specs.Setup.{ordinaryFrame}
 
--- the first byte of a line
-abbrev pub startsWith : ℕ → List ℕ → Bool
-startsWith letter l = eqb (getD l 0 0) letter
+-- ---- Where a body ends
 
 -- V n
-abbrev pub isClose : ℕ → Block → Bool
-isClose n (Machine q) = false
-isClose n End = false
-isClose n Read = false
-isClose n (Punch a t) = false
-isClose n (Move a t) = false
-isClose n (Origin a) = false
-isClose n (Offset a) = false
-isClose n (Place l) = false
-isClose n (Run q t a) = false
-isClose n (Recall k) = false
-isClose n (Nibble b) = false
-isClose n Idle = false
-isClose n (Open k) = false
-isClose n (Close k) = eqb k n
-isClose n (Call k) = false
-isClose n (Copy c) = false
+abbrev pub isClose : ℕ → Outside → Bool
+isClose n (Outside.Machine q) = false
+isClose n Outside.End = false
+isClose n (Outside.Offset a) = false
+isClose n (Outside.Layout l) = false
+isClose n (Outside.Open k) = false
+isClose n (Outside.Close k) = eqb k n
+isClose n (Outside.Copy c) = false
 
-abbrev pub closes : ℕ → Out Instruction → Bool
-closes n (refused number line) = false
-closes n (done i) = isClose n (i .block)
+abbrev pub closes : ℕ → Block → Bool
+closes n (Block.Direct d) = false
+closes n (Block.Call k) = false
+closes n (Block.Outside o) = isClose n o
+
+abbrev pub isCloseOf : ℕ → Checked Instruction → Bool
+isCloseOf n (fails number) = false
+isCloseOf n (passes i) = closes n (i .block)
 
 -- a U line's own V: a line of one valid V word with the same number and nothing else
 unfoldable pub isOwnClose : ℕ → List ℕ → Bool
 unfolding decode
-isOwnClose n l = closes n (decode l 0)
+isOwnClose n l = isCloseOf n (decode l)
+
+-- a U or V line
+abbrev pub isMark : List ℕ → Bool
+isMark l = either (startsWith letterU l) (startsWith letterV l)
 
 abbrev pub longer : ℕ → Option ℕ → Option ℕ
 longer k none = none
@@ -53,7 +64,50 @@ longer k (some n) = some (k + n)
 unfoldable pub bodySize : ℕ → List (List ℕ) → Option ℕ
 unfolding isOwnClose
 bodySize n [] = none
-bodySize n (l ∷ ls) = elim (either (startsWith letterU l) (startsWith letterV l)) [
+bodySize n (l ∷ ls) = elim (isMark l) [
   | true ↦ pick (isOwnClose n l) (some 0) none
   | false ↦ longer (length l + 1) (bodySize n ls)
 ]
+
+-- ---- U lines
+
+-- the most characters that stored bodies may have
+abbrev pub mostCharacters : ℕ
+mostCharacters = 3100
+
+-- 1 to 59 run the body once, then store; 60 to 89 only store, and while G98 is in force 1 to 59 only store as well
+abbrev pub runsFirst : ℕ → Sheet → Bool
+runsFirst n Plain = leb n 59
+runsFirst n (LaidOut l) = false
+
+-- the first run, a call: it finds the bodies that were stored before
+unfoldable pub firstRun : Judging → List ℕ → Macros → ℕ → Body → Setup → Progress → Out (Made Progress)
+unfolding runBody bodiesOf
+firstRun j text m n b s g = elim (runsFirst n (s .sheet)) [
+  | true ↦ runBody j (bodiesOf text m) (mostCalls - 1) (ordinaryFrame s) b g
+  | false ↦ still g
+]
+
+-- the body of a U line in a line with a number: so many bytes from a place of the text on
+abbrev pub bodyFrom : List ℕ → ℕ → ℕ → ℕ → Body
+bodyFrom text start size line = record { line = suc line; bytes = part text start (start + size) }
+
+abbrev pub storedAt : Macros → ℕ → ℕ → ℕ → ℕ → Macros
+storedAt m n start size line = storing m n start (start + size) (suc line)
+
+-- what a U line may change: the bodies that are stored, and the progress by the first run
+pub record Store : Type 0 where
+  pub macros : Macros
+  pub progress : Progress
+
+abbrev pub withStored : Macros → Progress → Store
+withStored m g = record { macros = m; progress = g }
+
+-- The U line of macro n, in a line with a number; its body starts at a place of the text, and the lines given follow it.
+-- 9 and 12 are judged at the U line, before its body.
+unfoldable pub openBody : Judging → List ℕ → ℕ → ℕ → ℕ → List (List ℕ) → Setup → Store → Out (Made Store)
+unfolding bodySize firstRun characters part
+openBody j text n start line ls s st = do
+  size ← given (bodySize n ls) 9 line
+  _ ← need (leb (characters (storedAt (st .macros) n start size line)) mostCharacters) 12 line
+  leaving (withStored (storedAt (st .macros) n start size line)) (firstRun j text (st .macros) n (bodyFrom text start size line) s (st .progress))

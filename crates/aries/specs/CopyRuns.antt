@@ -4,9 +4,11 @@ use mathlib.Core.Path.{_≡_}
 use mathlib.Core.Logic.{_↔_}
 use mathlib.Core.Bool.{Bool, true, false}
 use mathlib.Core.List.{List, [], _∷_, _++_, map}
+use mathlib.Core.Option.{Option, none, some}
 use Prim.Native.Nat.{ℕ, zero, suc, _+_, _-_, _*_, _/_, _%_}
 use lib.Dec.{eqb}
 use lib.IntN.{ℤ, pos, _+ℤ_, _-ℤ_}
+use Rattle.aries.specs.declared.job.Job.{Job}
 use Rattle.aries.specs.declared.point.Point.{Point}
 use Rattle.aries.specs.declared.block.Layout.{Layout}
 use Rattle.aries.specs.declared.setup.Sheet.{Sheet}
@@ -17,34 +19,34 @@ use Rattle.aries.specs.declared.state.Progress.{Progress}
 use Rattle.aries.specs.Outcome.{Out, done, refused}
 use Rattle.aries.specs.Test.{either, pick}
 use Rattle.aries.specs.Hits.{Hit, Made}
-use Rattle.aries.specs.Judging.{lent, unjudged}
+use Rattle.aries.specs.Judging.{Judging, limits, unjudged}
 use Rattle.aries.specs.Moves.{pointAt, zeroPoint, _⊕_, withState}
-use Rattle.aries.specs.Layouts.{copyStart, partOf, copyPart}
+use Rattle.aries.specs.Macros.{Body, Bodies, runBody}
+use Rattle.aries.specs.Setup.{ordinaryFrame, frameAt}
+use Rattle.aries.specs.Layouts.{copyStart, Part, partOf, copyPart}
 
 -- ---- Runs
 
--- What a run depends on: the text, what is set up, the line of the block, the part that W names and the corner that Q
--- names, the progress before (the state, the count of blocks carried out and of hits made), and the numbers of the list.
+-- What a run depends on: what is stored under each number, what is set up, the job among it, the line of the block, the
+-- part that W names and the corner that Q names, and the progress before (the state, the count of blocks carried out and
+-- of hits made).
 pub record Circumstances : Type 0 where
-  pub text : List ℕ
+  pub bodies : Bodies
   pub setup : Setup
   pub line : ℕ
   pub part : ℕ
   pub corner : ℕ
   pub before : Progress
-  pub numbers : ℕ
 
 -- a run: a G76 block, or a G75 block, with all that it carries out
 unfoldable pub run : Bool → Circumstances → Out (Made Progress)
 unfolding copyPart
-run vertical c = copyPart (lent (c .numbers)) (c .text) (c .setup) (c .line) (record { vertical = vertical; part = c .part; corner = c .corner }) (c .before)
+run vertical c = copyPart (limits (c .setup .job)) (c .bodies) (c .setup) (c .line) (record { vertical = vertical; part = c .part; corner = c .corner }) (c .before)
 
 abbrev pub byG75 : Circumstances → Out (Made Progress)
-unfolding run
 byG75 c = run false c
 
 abbrev pub byG76 : Circumstances → Out (Made Progress)
-unfolding run
 byG76 c = run true c
 
 -- accepted: none of it is refused
@@ -56,13 +58,26 @@ abbrev pub hitsOf : Out (Made Progress) → List Hit
 hitsOf (done m) = m .hits
 hitsOf (refused number line) = []
 
+-- which body is stored, if one is, wherever it stands in its text
+abbrev pub bytesOf : Option Body → Option (List ℕ)
+bytesOf none = none
+bytesOf (some b) = some (b .bytes)
+
+-- the part, if it is stored
+abbrev pub called : Judging → Circumstances → Option Body → Part
+called j c none f g = refused 10 (c .line)
+called j c (some b) f g = partOf j (c .bodies) b f g
+
 -- The part's own hits: those it makes when the block calls it once from the state found, with origin and current point
 -- at (0, 0), no pattern origin waiting, and 3, 15, 16 and 17 not judged.
+abbrev pub ownRun : Circumstances → Out (Made Progress)
+ownRun c =
+    called unjudged c (c .bodies (c .part)) (frameAt (ordinaryFrame (c .setup)) zeroPoint)
+    (withState (c .before) (copyStart (c .before .state) zeroPoint))
+
 unfoldable pub ownHits : Circumstances → List Hit
-ownHits c =
-    hitsOf
-    (partOf unjudged (c .text) (c .setup) (c .part) (record { machine = c .setup .machine; origin = zeroPoint })
-    (withState (c .before) (copyStart (c .before .state) zeroPoint)))
+unfolding runBody
+ownHits c = hitsOf (ownRun c)
 
 -- a hit with a vector added to X and Y
 abbrev pub movedBy : Point → Hit → Hit
@@ -110,16 +125,51 @@ joined f (suc n) m = f m ++ joined f n (suc m)
 
 -- all the part's own hits in order, for each m in turn from 0 to (P + 1) × (K + 1) − 1, the place of m added
 abbrev pub laidOut : Bool → Layout → Circumstances → List Hit
-unfolding joined ownHits
 laidOut vertical l c =
     joined (λ m. map (movedBy (placeOf (c .setup .origin) l (c .corner) (cellOf vertical l m))) (ownHits c))
     ((l .steps .x + 1) * (l .steps .y + 1)) 0
+
+-- ---- Runs that are compared
+
+-- Two runs of one part, in one state on one machine: the same is stored under each number, whatever the texts are and
+-- wherever it stands in them, and the same body under the part's own number.
+pub record SamePart (c d : Circumstances) : Type 0 where
+  pub machine : c .setup .machine ≡ d .setup .machine
+  pub state : c .before .state ≡ d .before .state
+  pub bodies : (n : ℕ) → bytesOf (c .bodies n) ≡ bytesOf (d .bodies n)
+  pub part : bytesOf (c .bodies (c .part)) ≡ bytesOf (d .bodies (d .part))
+
+abbrev pub freePlaces : Circumstances → ℕ
+freePlaces c = c .setup .job .places - c .before .hits
+
+-- Two runs with all of these alike: stored part, layout, starting corner and state before, the count of blocks carried out
+-- before and the free list places.
+pub record AllAlike (c d : Circumstances) : Type 0 where
+  pub parts : SamePart c d
+  pub sheet : c .setup .sheet ≡ d .setup .sheet
+  pub origin : c .setup .origin ≡ d .setup .origin
+  pub corner : c .corner ≡ d .corner
+  pub blocks : c .before .blocks ≡ d .before .blocks
+  pub free : freePlaces c ≡ freePlaces d
+
+-- the reference point moved by a vector
+abbrev pub movedSheet : Point → Sheet → Sheet
+movedSheet v Plain = Plain
+movedSheet v (LaidOut l) = LaidOut (record { reference = l .reference ⊕ v; pitch = l .pitch; steps = l .steps })
+
+-- The second run has its reference point moved by a vector; the origin, reference plus offset, moves along. Nothing else in
+-- the call or the state before is changed; block count and free places are no part of the state.
+pub record ReferenceMoved (v : Point) (c d : Circumstances) : Type 0 where
+  pub parts : SamePart c d
+  pub sheet : movedSheet v (c .setup .sheet) ≡ d .setup .sheet
+  pub origin : c .setup .origin ⊕ v ≡ d .setup .origin
+  pub corner : c .corner ≡ d .corner
 
 -- ---- The four statements
 
 -- Called by G75 and by G76 with all else alike, both runs are accepted or both are refused.
 abbrev pub BothOrNeither : Type 0
-BothOrNeither = (c : Circumstances) → Accepted (byG75 c) ↔ Accepted (byG76 c)
+BothOrNeither = (c d : Circumstances) → AllAlike c d → Accepted (byG75 c) ↔ Accepted (byG76 d)
 
 -- a single row, a single column, both pitches zero, or no hit
 pub data Alike (l : Layout) (own : List Hit) : Type 0 where
@@ -132,40 +182,19 @@ pub data Alike (l : Layout) (own : List Hit) : Type 0 where
 -- column, or both pitches are zero, or the part makes no hit.
 abbrev pub EqualExactlyWhen : Type 0
 EqualExactlyWhen =
-    (c : Circumstances) (l : Layout) → c .setup .sheet ≡ LaidOut l → Accepted (byG75 c) → Accepted (byG76 c)
-    → (hitsOf (byG75 c) ≡ hitsOf (byG76 c)) ↔ Alike l (ownHits c)
+    (c d : Circumstances) (l : Layout) → AllAlike c d → c .setup .sheet ≡ LaidOut l → Accepted (byG75 c) → Accepted (byG76 d)
+    → (hitsOf (byG75 c) ≡ hitsOf (byG76 d)) ↔ Alike l (ownHits c)
 
--- The hits of every accepted run are the part's own hits, moved to each place of the layout once, copy after copy.
+-- The part of every accepted run is accepted by itself, and the hits of the run are the part's own hits, moved to each
+-- place of the layout once, copy after copy.
 abbrev pub LayoutSentence : Type 0
 LayoutSentence =
     (vertical : Bool) (c : Circumstances) (l : Layout) → c .setup .sheet ≡ LaidOut l → Accepted (run vertical c)
-    → hitsOf (run vertical c) ≡ laidOut vertical l c
-
--- the reference point moved by a vector; the ordinary origin, reference plus offset, moves along
-abbrev pub movedSheet : Point → Sheet → Sheet
-movedSheet v Plain = Plain
-movedSheet v (LaidOut l) = LaidOut (record { reference = l .reference ⊕ v; pitch = l .pitch; steps = l .steps })
-
-abbrev pub movedSetup : Point → Setup → Setup
-movedSetup v s = record { machine = s .machine; sheet = movedSheet v (s .sheet); offset = s .offset; origin = s .origin ⊕ v; macros = s .macros }
-
--- the same call and state with the reference point moved; block count and free places are no part of the state
-abbrev pub movedRun : Point → Circumstances → ℕ → ℕ → ℕ → Circumstances
-movedRun v c blocks hits numbers =
-    record {
-      text = c .text;
-      setup = movedSetup v (c .setup);
-      line = c .line;
-      part = c .part;
-      corner = c .corner;
-      before = record { state = c .before .state; blocks = blocks; hits = hits };
-      numbers = numbers;
-    }
+    → Accepted (ownRun c) × (hitsOf (run vertical c) ≡ laidOut vertical l c)
 
 -- Moving the reference point by any vector and changing nothing else in the call or the state before moves every hit of
 -- the run by it, tool, mode and order kept, where both runs are accepted.
 abbrev pub ReferenceMoves : Type 0
 ReferenceMoves =
-    (vertical : Bool) (v : Point) (c : Circumstances) (blocks hits numbers : ℕ)
-    → Accepted (run vertical c) → Accepted (run vertical (movedRun v c blocks hits numbers))
-    → hitsOf (run vertical (movedRun v c blocks hits numbers)) ≡ map (movedBy v) (hitsOf (run vertical c))
+    (vertical : Bool) (v : Point) (c d : Circumstances) → ReferenceMoved v c d → Accepted (run vertical c) → Accepted (run vertical d)
+    → hitsOf (run vertical d) ≡ map (movedBy v) (hitsOf (run vertical c))

@@ -5,8 +5,14 @@ use mathlib.Core.Option.{Option, none, some}
 use Prim.Native.Nat.{ℕ, _/_}
 use lib.Dec.{leb, ltb}
 use lib.IntN.{ℤ, natAbs}
+use Rattle.aries.specs.declared.job.Job.{Job}
 use Rattle.aries.specs.declared.point.Point.{Point}
 use Rattle.aries.specs.Test.{both}
+
+-- What the caller fixes for a whole text, by lending a list of so many numbers: four are a place, fewer at its end are
+-- none.
+abbrev pub lending : ℕ → Job
+lending numbers = record { places = numbers / 4 }
 
 -- the most blocks (3), whether 15 and 16 are judged, and the places of the lent list (17)
 pub record Judging : Type 0 where
@@ -18,9 +24,9 @@ pub record Judging : Type 0 where
 abbrev pub mostBlocks : ℕ
 mostBlocks = 100000
 
--- everything, with a lent list of so many numbers: four are a place, fewer at its end are none
-abbrev pub lent : ℕ → Judging
-lent numbers = record { blocks = some mostBlocks; bounds = true; places = some (numbers / 4) }
+-- everything, for a job
+abbrev pub limits : Job → Judging
+limits job = record { blocks = some mostBlocks; bounds = true; places = some (job .places) }
 
 -- a part's own hits: 3, 15, 16 and 17 are not judged
 abbrev pub unjudged : Judging

@@ -15,13 +15,14 @@ use Rattle.aries.specs.declared.state.Waiting.the-variants.{Unset}
 use Rattle.aries.specs.declared.state.State.{State}
 use Rattle.aries.specs.declared.state.Frame.{Frame}
 use Rattle.aries.specs.declared.state.Progress.{Progress}
-use Rattle.aries.specs.Outcome.{Out, done, refused, _>>=_, need}
+use Rattle.aries.specs.Outcome.{Out, done, refused, _>>=_, need, given}
 use Rattle.aries.specs.Test.{either, pick}
 use Rattle.aries.specs.Hits.{Made, still, andThen}
 use Rattle.aries.specs.Judging.{Judging, judged, near}
 use Rattle.aries.specs.Lanes.{lane, along}
 use Rattle.aries.specs.Moves.{pointAt, _⊕_, movedTo, waitingFor, withState}
-use Rattle.aries.specs.Macros.{isStored, firstLine, body, mostCalls, runBody}
+use Rattle.aries.specs.Macros.{Body, Bodies, mostCalls, runBody}
+use Rattle.aries.specs.Setup.{ordinaryFrame, frameAt}
 
 -- ---- Places
 
@@ -66,9 +67,6 @@ copyPlace origin l c m = placeAt origin l (c .corner) (columnOf (c .vertical) l 
 abbrev pub copyStart : State → Point → State
 copyStart s p = movedTo (waitingFor s Unset) p
 
-abbrev pub frameAt : Frame → Point → Frame
-frameAt f p = record { machine = f .machine; origin = p }
-
 -- what carries the part out, in a frame
 abbrev pub Part : Type 0
 Part = Frame → Progress → Out (Made Progress)
@@ -86,21 +84,18 @@ unfolding copy
 copyAll j part f line found place zero m g = still g
 copyAll j part f line found place (suc n) m g = andThen (copy j part f line found (place m) g) (copyAll j part f line found place n (suc m))
 
--- the part that W names, carried out with one call open
-abbrev pub partOf : Judging → List ℕ → Setup → ℕ → Part
-unfolding runBody body
-partOf j text s n f g = runBody j text (s .macros) (mostCalls - 1) f (firstLine (s .macros) n) (body text (s .macros) n) g
+-- a body as the part that is copied, carried out with one call open
+abbrev pub partOf : Judging → Bodies → Body → Part
+partOf j bodies b f g = runBody j bodies (mostCalls - 1) f b g
 
-abbrev pub copyOver : Judging → List ℕ → Setup → ℕ → Copies → Sheet → Progress → Out (Made Progress)
-unfolding copyAll copyPlace runBody body
-copyOver j text s line c Plain g = refused 13 line
-copyOver j text s line c (LaidOut l) g =
-    copyAll j (partOf j text s (c .part)) (record { machine = s .machine; origin = s .origin }) line (g .state)
-    (copyPlace (s .origin) l c) (copyCount l) 0 g
+abbrev pub copyOver : Judging → Bodies → Body → Setup → ℕ → Copies → Sheet → Progress → Out (Made Progress)
+copyOver j bodies b s line c Plain g = refused 13 line
+copyOver j bodies b s line c (LaidOut l) g =
+    copyAll j (partOf j bodies b) (ordinaryFrame s) line (g .state) (copyPlace (s .origin) l c) (copyCount l) 0 g
 
 -- A G75 or G76 block. It stands outside bodies, where no call is open.
-unfoldable pub copyPart : Judging → List ℕ → Setup → ℕ → Copies → Progress → Out (Made Progress)
-unfolding copyAll copyPlace runBody body
-copyPart j text s line c g = do
-  _ ← need (isStored (s .macros) (c .part)) 10 line
-  copyOver j text s line c (s .sheet) g
+unfoldable pub copyPart : Judging → Bodies → Setup → ℕ → Copies → Progress → Out (Made Progress)
+unfolding copyAll copyPlace runBody
+copyPart j bodies s line c g = do
+  b ← given (bodies (c .part)) 10 line
+  copyOver j bodies b s line c (s .sheet) g

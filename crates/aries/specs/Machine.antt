@@ -8,6 +8,7 @@ use Rattle.aries.specs.declared.machine.Machine.{Machine}
 use Rattle.aries.specs.declared.machine.Machine.the-variants.{Aries222, Aries224}
 use Rattle.aries.specs.declared.machine.Named.{Named}
 use Rattle.aries.specs.declared.machine.Named.the-variants.{As, Neither}
+use Rattle.aries.specs.declared.state.Frame.{Frame}
 use Rattle.aries.specs.Test.{both, pick}
 
 abbrev pub isPair : Point → ℤ → ℤ → Bool
@@ -35,3 +36,7 @@ unfoldable pub covers : Machine → Point → Bool
 covers m p =
     both (both (leZ leastEnd (p .x)) (leZ (p .x) (rightEnd m)))
     (both (leZ leastEnd (p .y)) (leZ (p .y) topEnd))
+
+-- 16: a point is in the range that holds in a frame
+abbrev pub inRange : Frame → Point → Bool
+inRange f p = covers (f .machine) p

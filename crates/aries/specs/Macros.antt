@@ -1,25 +1,29 @@
 -- Macros: the bodies that are stored, and running them. (Document 01, "Macros and layouts"; refusals 3 to 7, 10 and 11.)
-use mathlib.Core.Bool.{Bool, true, false}
+use mathlib.Core.Bool.{Bool, true, false, not}
 use mathlib.Core.List.{List, [], _∷_}
+use mathlib.Core.Option.{Option, none, some}
 use Prim.Native.Nat.{ℕ, zero, suc, _+_, _-_, _≤_}
 use lib.Dec.{ltb}
 use lib.ListN.{getD, set, take, drop, replicate}
+use Rattle.aries.specs.declared.block.Direct.{Direct}
+use Rattle.aries.specs.declared.block.Direct.the-variants.{Lone, Punch, Move, PatternOrigin, Run, Recall, Nibble, Idle}
 use Rattle.aries.specs.declared.block.Block.{Block}
-use Rattle.aries.specs.declared.block.Block.the-variants.{Machine, End, Read, Punch, Move, Origin, Offset, Place, Run, Recall, Nibble, Idle, Open, Close, Call, Copy}
+use Rattle.aries.specs.declared.block.Block.the-variants as Block
 use Rattle.aries.specs.declared.block.Measure.{Measure}
 use Rattle.aries.specs.declared.block.Instruction.{Instruction}
 use Rattle.aries.specs.declared.macros.Macros.{Macros}
 use Rattle.aries.specs.declared.macros.Found.{Found}
-use Rattle.aries.specs.declared.macros.Found.the-variants.{Body, Nothing}
+use Rattle.aries.specs.declared.macros.Found.the-variants as Found
 use Rattle.aries.specs.declared.state.Frame.{Frame}
 use Rattle.aries.specs.declared.state.Progress.{Progress}
-use Rattle.aries.specs.Outcome.{Out, done, refused, _>>=_, need}
-use Rattle.aries.specs.Test.{pick}
-use Rattle.aries.specs.Text.{lines}
+use Rattle.aries.specs.Outcome.{Out, done, refused, _>>=_, need, given, inLine}
+use Rattle.aries.specs.Test.{either, pick}
+use Rattle.aries.specs.Letters.{letterV}
+use Rattle.aries.specs.Text.{lines, startsWith}
 use Rattle.aries.specs.Blocks.{decode}
 use Rattle.aries.specs.Hits.{Made, still, andThen}
 use Rattle.aries.specs.Judging.{Judging, room}
-use Rattle.aries.specs.Moves.{measuring, dropping, inMode, withState, position, move, setOrigin}
+use Rattle.aries.specs.Moves.{measuring, dropping, inMode, withState, position, move, setPatternOrigin}
 use Rattle.aries.specs.Patterns.{runPattern, recall}
 
 -- ---- Bodies
@@ -31,17 +35,30 @@ noMacros = record { start = replicate 90 0; end = replicate 90 0; line = replica
 abbrev pub isStored : Macros → ℕ → Bool
 isStored m n = ltb 0 (getD (m .line) n 0)
 
--- the line of a body's start
-abbrev pub firstLine : Macros → ℕ → ℕ
-firstLine m n = getD (m .line) n 0
-
--- where the body of a macro lies, if it is stored
+-- where the body of a macro lies, and the line of its start, if it is stored
 abbrev pub foundIn : Macros → ℕ → Found
-foundIn m n = pick (isStored m n) (Body (getD (m .start) n 0) (getD (m .end) n 0) (firstLine m n)) Nothing
+foundIn m n = pick (isStored m n) (Found.Body (getD (m .start) n 0) (getD (m .end) n 0) (getD (m .line) n 0)) Found.Nothing
 
--- a macro's body: the part of the program text between its U line and its V line
-unfoldable pub body : List ℕ → Macros → ℕ → List ℕ
-body text m n = take (getD (m .end) n 0 - getD (m .start) n 0) (drop (getD (m .start) n 0) text)
+-- a macro's body, the part of the program text between its U line and its V line, and the number of its first line
+pub record Body : Type 0 where
+  pub line : ℕ
+  pub bytes : List ℕ
+
+-- the part of a text from one place to another
+unfoldable pub part : List ℕ → ℕ → ℕ → List ℕ
+part text start end = take (end - start) (drop start text)
+
+abbrev pub bodyAt : List ℕ → Found → Option Body
+bodyAt text Found.Nothing = none
+bodyAt text (Found.Body start end line) = some (record { line = line; bytes = part text start end })
+
+-- what is stored under each number
+abbrev pub Bodies : Type 0
+Bodies = ℕ → Option Body
+
+unfoldable pub bodiesOf : List ℕ → Macros → Bodies
+unfolding part
+bodiesOf text m n = bodyAt text (foundIn m n)
 
 -- storing again replaces
 abbrev pub storing : Macros → ℕ → ℕ → ℕ → ℕ → Macros
@@ -57,53 +74,72 @@ sizes (a ∷ starts) (e ∷ ends) = (e - a) + sizes starts ends
 unfoldable pub characters : Macros → ℕ
 characters m = sizes (m .start) (m .end)
 
--- every body lies within a text of so many bytes
-pub record Within (m : Macros) (length : ℕ) : Type 0 where
-  pub ordered : (n : ℕ) → getD (m .start) n 0 ≤ getD (m .end) n 0
-  pub inside : (n : ℕ) → getD (m .end) n 0 ≤ length
-
 -- ---- Blocks that may stand in a body
 
--- what a call of a macro does, by its number and the line of the call
+-- one direct block that has been decoded and counted
+unfoldable pub carryDirect : Judging → Frame → ℕ → Direct → Progress → Out (Made Progress)
+unfolding position move setPatternOrigin runPattern recall
+carryDirect j f line Lone g = still (withState g (dropping (g .state)))
+carryDirect j f line (Punch a t) g = position j f line a t g
+carryDirect j f line (Move a t) g = move j f line a t g
+carryDirect j f line (PatternOrigin a) g = setPatternOrigin j f line a g
+carryDirect j f line (Run p t a) g = runPattern j f line p t a g
+carryDirect j f line (Recall n) g = recall j f line n g
+carryDirect j f line (Nibble b) g = still (withState g (inMode (g .state) b))
+carryDirect j f line Idle g = still g
+
+-- what a call of a macro does, by the frame, its number and the line of the call
 abbrev pub Calls : Type 0
-Calls = ℕ → ℕ → Progress → Out (Made Progress)
+Calls = Frame → ℕ → ℕ → Progress → Out (Made Progress)
 
--- One block that has been decoded and counted. G50, G75, G76, G92, G93 and G98 are in a wrong place in a body. No body
--- of a text has a U or V line in it; as a block it would be in a wrong place too.
+-- One block of a body that has been decoded and counted. Those that stand only outside bodies, G50, G75, G76, G92, G93 and
+-- G98, are in a wrong place there. No body of a text has a U or V line in it; as a block it would be in a wrong place too.
 unfoldable pub carry : Judging → Calls → Frame → ℕ → Block → Progress → Out (Made Progress)
-unfolding position move setOrigin runPattern recall
-carry j call f line (Machine p) g = refused 7 line
-carry j call f line End g = refused 7 line
-carry j call f line Read g = still (withState g (dropping (g .state)))
-carry j call f line (Punch a t) g = position j f line a t g
-carry j call f line (Move a t) g = move j f line a t g
-carry j call f line (Origin a) g = setOrigin j f line a g
-carry j call f line (Offset a) g = refused 7 line
-carry j call f line (Place l) g = refused 7 line
-carry j call f line (Run p t a) g = runPattern j f line p t a g
-carry j call f line (Recall n) g = recall j f line n g
-carry j call f line (Nibble b) g = still (withState g (inMode (g .state) b))
-carry j call f line Idle g = still g
-carry j call f line (Open n) g = refused 7 line
-carry j call f line (Close n) g = refused 7 line
-carry j call f line (Call n) g = call n line g
-carry j call f line (Copy c) g = refused 7 line
+unfolding carryDirect
+carry j call f line (Block.Direct d) g = carryDirect j f line d g
+carry j call f line (Block.Call n) g = call f n line g
+carry j call f line (Block.Outside o) g = refused 7 line
 
--- a block begins: it counts, and its G90 or G91 holds
-abbrev pub begun : Progress → Measure → Progress
-begun g m = record { state = measuring (g .state) m; blocks = g .blocks + 1; hits = g .hits }
+-- ---- A block begins
 
--- the block of a line
+-- V lines are not counted
+abbrev pub isCounted : List ℕ → Bool
+isCounted l = not (startsWith letterV l)
+
+-- 3: another block may come
+abbrev pub mayCome : Judging → List ℕ → Progress → Bool
+mayCome j l g = either (not (isCounted l)) (room (j .blocks) (g .blocks))
+
+-- it counts, and its G90 or G91 holds
+abbrev pub begun : Bool → Measure → Progress → Progress
+begun counted m g = record { state = measuring (g .state) m; blocks = pick counted (g .blocks + 1) (g .blocks); hits = g .hits }
+
+-- the block of a line, and the progress as the block finds it
+pub record Begun : Type 0 where
+  pub block : Block
+  pub progress : Progress
+
+abbrev pub begunBy : List ℕ → Progress → Instruction → Begun
+begunBy l g i = record { block = i .block; progress = begun (isCounted l) (i .measure) g }
+
+-- the block of a line begins: 3, then 4 to 6
+unfoldable pub begin : Judging → ℕ → List ℕ → Progress → Out Begun
+unfolding decode
+begin j line l g = do
+  _ ← need (mayCome j l g) 3 line
+  i ← inLine line (decode l)
+  done (begunBy l g i)
+
+-- ---- The lines of a body
+
 unfoldable pub runBlock : Judging → Calls → Frame → ℕ → List ℕ → Progress → Out (Made Progress)
-unfolding decode carry
-runBlock j call f line bs g = do
-  _ ← need (room (j .blocks) (g .blocks)) 3 line
-  i ← decode bs line
-  carry j call f line (i .block) (begun g (i .measure))
+unfolding begin carry
+runBlock j call f line l g = do
+  b ← begin j line l g
+  carry j call f line (b .block) (b .progress)
 
 -- a blank line does nothing
 abbrev pub runLine : Judging → Calls → Frame → ℕ → List ℕ → Progress → Out (Made Progress)
-unfolding runBlock
 runLine j call f line [] g = still g
 runLine j call f line (b ∷ bs) g = runBlock j call f line (b ∷ bs) g
 
@@ -115,21 +151,22 @@ runLines j call f line (l ∷ ls) g = andThen (runLine j call f line l g) (runLi
 
 -- ---- Calls
 
--- A call of macro n with d further calls to open, counted with this one. W goes on with the state as it is.
-unfoldable pub call : Judging → List ℕ → Macros → Frame → ℕ → Calls
-unfolding runLines body lines
-call j text m f zero n line g = do
-  _ ← need (isStored m n) 10 line
+-- A call of macro n, of what is stored, with d further calls to open, counted with this one. W goes on with the state as
+-- it is.
+unfoldable pub call : Judging → Bodies → ℕ → Calls
+unfolding runLines lines
+call j bodies zero f n line g = do
+  b ← given (bodies n) 10 line
   refused 11 line
-call j text m f (suc d) n line g = do
-  _ ← need (isStored m n) 10 line
-  runLines j (call j text m f d) f (firstLine m n) (lines (body text m n)) g
+call j bodies (suc d) f n line g = do
+  b ← given (bodies n) 10 line
+  runLines j (call j bodies d) f (b .line) (lines (b .bytes)) g
 
 -- at most four calls are open
 abbrev pub mostCalls : ℕ
 mostCalls = 4
 
 -- a body carried out in a call that leaves d further ones to open
-unfoldable pub runBody : Judging → List ℕ → Macros → ℕ → Frame → ℕ → List ℕ → Progress → Out (Made Progress)
+unfoldable pub runBody : Judging → Bodies → ℕ → Frame → Body → Progress → Out (Made Progress)
 unfolding runLines call lines
-runBody j text m d f line bs g = runLines j (call j text m f d) f line (lines bs) g
+runBody j bodies d f b g = runLines j (call j bodies d) f (b .line) (lines (b .bytes)) g

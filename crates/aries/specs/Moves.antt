@@ -21,7 +21,7 @@ use Rattle.aries.specs.declared.state.Frame.{Frame}
 use Rattle.aries.specs.declared.state.Progress.{Progress}
 use Rattle.aries.specs.Outcome.{Out, done, refused, _>>=_, need}
 use Rattle.aries.specs.Test.{pick}
-use Rattle.aries.specs.Machine.{covers}
+use Rattle.aries.specs.Machine.{covers, inRange}
 use Rattle.aries.specs.Hits.{Hit, Made, still}
 use Rattle.aries.specs.Judging.{Judging, room, judged, near}
 
@@ -40,21 +40,61 @@ p ⊕ q = pointAt (p .x +ℤ q .x) (p .y +ℤ q .y)
 -- ---- The state (what one block leaves to the next), changed in one respect
 
 abbrev pub movedTo : State → Point → State
-movedTo s p = record { current = p; waiting = s .waiting; incremental = s .incremental; nibble = s .nibble; tool = s .tool; memories = s .memories }
+movedTo s p =
+    record {
+      current = p;
+      waiting = s .waiting;
+      incremental = s .incremental;
+      nibble = s .nibble;
+      tool = s .tool;
+      memories = s .memories;
+    }
 
 abbrev pub waitingFor : State → Waiting → State
-waitingFor s w = record { current = s .current; waiting = record { origin = w }; incremental = s .incremental; nibble = s .nibble; tool = s .tool; memories = s .memories }
+waitingFor s w =
+    record {
+      current = s .current;
+      waiting = record { origin = w };
+      incremental = s .incremental;
+      nibble = s .nibble;
+      tool = s .tool;
+      memories = s .memories;
+    }
 
 abbrev pub inMode : State → Bool → State
-inMode s n = record { current = s .current; waiting = s .waiting; incremental = s .incremental; nibble = n; tool = s .tool; memories = s .memories }
+inMode s n =
+    record {
+      current = s .current;
+      waiting = s .waiting;
+      incremental = s .incremental;
+      nibble = n;
+      tool = s .tool;
+      memories = s .memories;
+    }
 
 -- T chooses the tool; 0 is no T
 abbrev pub choosing : State → ℕ → State
-choosing s t = record { current = s .current; waiting = s .waiting; incremental = s .incremental; nibble = s .nibble; tool = pick (ltb 0 t) t (s .tool); memories = s .memories }
+choosing s t =
+    record {
+      current = s .current;
+      waiting = s .waiting;
+      incremental = s .incremental;
+      nibble = s .nibble;
+      tool = pick (ltb 0 t) t (s .tool);
+      memories = s .memories;
+    }
 
 -- A n stores a pattern; 0 is no A
 abbrev pub remembering : State → ℕ → Pattern → State
-remembering s n p = record { current = s .current; waiting = s .waiting; incremental = s .incremental; nibble = s .nibble; tool = s .tool; memories = pick (ltb 0 n) (set (s .memories) (n - 1) (record { stored = Stored.Kept p })) (s .memories) }
+remembering s n p =
+    record {
+      current = s .current;
+      waiting = s .waiting;
+      incremental = s .incremental;
+      nibble = s .nibble;
+      tool = s .tool;
+      memories = pick (ltb 0 n) (set (s .memories) (n - 1) (record { stored = Stored.Kept p })) (s .memories);
+    }
 
 -- G90 or G91 of a block holds for that block already, and on
 abbrev pub isIncremental : Measure → Bool → Bool
@@ -63,7 +103,15 @@ isIncremental Absolute before = false
 isIncremental Incremental before = true
 
 abbrev pub measuring : State → Measure → State
-measuring s m = record { current = s .current; waiting = s .waiting; incremental = isIncremental m (s .incremental); nibble = s .nibble; tool = s .tool; memories = s .memories }
+measuring s m =
+    record {
+      current = s .current;
+      waiting = s .waiting;
+      incremental = isIncremental m (s .incremental);
+      nibble = s .nibble;
+      tool = s .tool;
+      memories = s .memories;
+    }
 
 -- a position block drops a waiting pattern origin
 abbrev pub dropping : State → State
@@ -72,6 +120,9 @@ dropping s = waitingFor s Unset
 -- At the start G90 holds, the mode is P, no tool is chosen and nothing is stored.
 abbrev pub freshState : State
 freshState = record { current = zeroPoint; waiting = record { origin = Unset }; incremental = false; nibble = false; tool = 0; memories = replicate 5 (record { stored = Stored.Empty }) }
+
+abbrev pub freshProgress : Progress
+freshProgress = record { state = freshState; blocks = 0; hits = 0 }
 
 abbrev pub withState : Progress → State → Progress
 withState g s = record { state = s; blocks = g .blocks; hits = g .hits }
@@ -107,7 +158,7 @@ unfolding near covers
 punch j f line p g = do
   _ ← need (ltb 0 (g .state .tool)) 14 line
   _ ← need (judged (j .bounds) (near p)) 15 line
-  _ ← need (judged (j .bounds) (covers (f .machine) p)) 16 line
+  _ ← need (judged (j .bounds) (inRange f p)) 16 line
   _ ← need (room (j .places) (g .hits)) 17 line
   done (hitting g p)
 
@@ -121,12 +172,12 @@ unfoldable pub move : Judging → Frame → ℕ → Axes → ℕ → Progress �
 unfolding near covers
 move j f line a t g = do
   _ ← need (judged (j .bounds) (near (target f (g .state) a))) 15 line
-  _ ← need (judged (j .bounds) (covers (f .machine) (target f (g .state) a))) 16 line
+  _ ← need (judged (j .bounds) (inRange f (target f (g .state) a))) 16 line
   still (withState g (movedTo (dropping (choosing (g .state) t)) (target f (g .state) a)))
 
 -- G72 sets the waiting pattern origin; the current point stays.
-unfoldable pub setOrigin : Judging → Frame → ℕ → Axes → Progress → Out (Made Progress)
+unfoldable pub setPatternOrigin : Judging → Frame → ℕ → Axes → Progress → Out (Made Progress)
 unfolding near
-setOrigin j f line a g = do
+setPatternOrigin j f line a g = do
   _ ← need (judged (j .bounds) (near (target f (g .state) a))) 15 line
   still (withState g (waitingFor (g .state) (At (target f (g .state) a))))

@@ -21,3 +21,13 @@ need false number line = refused number line
 abbrev pub given : {A : Type 0} → Option A → ℕ → ℕ → Out A
 given none number line = refused number line
 given (some a) number line = done a
+
+-- what is judged of a line by itself: a result, or a refusal's number
+pub data Checked (A : Type 0) : Type 0 where
+  passes : A → Checked A
+  fails : ℕ → Checked A
+
+-- the same in a line with a number
+abbrev pub inLine : {A : Type 0} → ℕ → Checked A → Out A
+inLine line (passes a) = done a
+inLine line (fails number) = refused number line

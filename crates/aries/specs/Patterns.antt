@@ -112,7 +112,6 @@ abbrev pub emptyMemory : Memory
 emptyMemory = record { stored = Empty }
 
 abbrev pub recalled : Judging → Frame → ℕ → Stored → Progress → Out (Made Progress)
-unfolding pattern
 recalled j f line Empty g = refused 10 line
 recalled j f line (Kept p) g = pattern j f line p g
 

@@ -10,11 +10,10 @@ use Rattle.aries.specs.declared.setup.Program.{Program}
 use Rattle.aries.specs.Outcome.{Out, done, refused}
 use Rattle.aries.specs.Text.{bytes, lines, withoutSpaces}
 use Rattle.aries.specs.Hits.{Hit, Made}
-use Rattle.aries.specs.Judging.{lent}
+use Rattle.aries.specs.Judging.{lending, limits}
 use Rattle.aries.specs.Moves.{pointAt, zeroPoint}
 use Rattle.aries.specs.Macros.{characters}
-use Rattle.aries.specs.Setup.{freshProgram}
-use Rattle.aries.specs.Program.{expand, runFrom}
+use Rattle.aries.specs.Program.{freshProgram, expand, runFrom}
 
 -- places for 4,096 hits, as the program hitlist lends
 abbrev pub numbers : ℕ
@@ -45,14 +44,12 @@ seenHits indexes (done hs) = hits (length hs) (map (λ k. getD (noHit ∷ hs) k 
 seenHits indexes (refused number line) = refusal number line
 
 abbrev pub seenStorage : Out (Made Program) → Seen
-unfolding characters
-seenStorage (done m) = stored (characters (m .after .setup .macros))
+seenStorage (done m) = stored (characters (m .after .macros))
 seenStorage (refused number line) = refusal number line
 
 abbrev pub seen : View → List ℕ → Seen
-unfolding expand runFrom characters
 seen (hitsAt indexes) text = seenHits indexes (expand text numbers)
-seen storage text = seenStorage (runFrom (lent numbers) (withoutSpaces text) 0 1 (lines (withoutSpaces text)) freshProgram)
+seen storage text = seenStorage (runFrom (limits (lending numbers)) (withoutSpaces text) 0 1 (lines (withoutSpaces text)) (freshProgram (lending numbers)))
 
 unfoldable pub found : Row → Seen
 unfolding expand runFrom bytes characters

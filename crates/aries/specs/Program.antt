@@ -1,5 +1,5 @@
 -- The whole program: blocks outside bodies, their order, and the answer to a text. (Document 01, "The seventeen refusals,
--- in checking order"; refusals 1, 2, 3, 7 and 9.)
+-- in checking order"; refusals 1, 2, 3, 7, 8 and 9.)
 use mathlib.Core.Bool.{Bool, true, false, not}
 use mathlib.Core.List.{List, [], _∷_, _++_}
 use mathlib.Core.Option.{Option, none, some}
@@ -8,10 +8,16 @@ use lib.IntN.{ℤ, pos}
 use lib.ListN.{length, replicate}
 use Rattle.aries.specs.declared.answer.Answer.{Answer}
 use Rattle.aries.specs.declared.answer.Answer.the-variants.{Hits, Refused}
+use Rattle.aries.specs.declared.block.Outside.{Outside}
+use Rattle.aries.specs.declared.block.Outside.the-variants as Outside
 use Rattle.aries.specs.declared.block.Block.{Block}
-use Rattle.aries.specs.declared.block.Block.the-variants.{Machine, End, Read, Punch, Move, Origin, Offset, Place, Run, Recall, Nibble, Idle, Open, Close, Call, Copy}
-use Rattle.aries.specs.declared.block.Instruction.{Instruction}
-use Rattle.aries.specs.declared.block.Measure.{Measure}
+use Rattle.aries.specs.declared.block.Block.the-variants as Block
+use Rattle.aries.specs.declared.job.Job.{Job}
+use Rattle.aries.specs.declared.machine.Machine.{Machine}
+use Rattle.aries.specs.declared.machine.Named.{Named}
+use Rattle.aries.specs.declared.machine.Named.the-variants.{As, Neither}
+use Rattle.aries.specs.declared.macros.Macros.{Macros}
+use Rattle.aries.specs.declared.point.Point.{Point}
 use Rattle.aries.specs.declared.setup.Sheet.the-variants.{LaidOut}
 use Rattle.aries.specs.declared.setup.Setup.{Setup}
 use Rattle.aries.specs.declared.setup.Stage.{Stage}
@@ -19,74 +25,103 @@ use Rattle.aries.specs.declared.setup.Stage.the-variants.{Fresh, Running
 use Rattle.aries.specs.declared.setup.Program.{Program}
 use Rattle.aries.specs.declared.state.Progress.{Progress}
 use Rattle.aries.specs.Outcome.{Out, done, refused, _>>=_, need}
-use Rattle.aries.specs.Test.{either, within, pick}
+use Rattle.aries.specs.Test.{within, pick}
 use Rattle.aries.specs.Letters.{letterV}
-use Rattle.aries.specs.Text.{longest, strayLine, withoutSpaces, lines}
-use Rattle.aries.specs.Blocks.{decode}
+use Rattle.aries.specs.Text.{longest, strayLine, withoutSpaces, lines, startsWith}
 use Rattle.aries.specs.Hits.{Hit, cells, Made, still, andThen, leaving}
-use Rattle.aries.specs.Judging.{Judging, lent, room}
-use Rattle.aries.specs.Moves.{withState, measuring}
-use Rattle.aries.specs.Macros.{mostCalls, call, carry, begun}
+use Rattle.aries.specs.Judging.{Judging, lending, limits}
+use Rattle.aries.specs.Machine.{named}
+use Rattle.aries.specs.Moves.{movedTo, withState, freshProgress}
+use Rattle.aries.specs.Macros.{noMacros, bodiesOf, mostCalls, call, carry, Begun, begin}
+use Rattle.aries.specs.Setup.{freshSetup, withMachine, setOrigin, offsetBy, ordinaryFrame}
 use Rattle.aries.specs.Layouts.{copyPart}
-use Rattle.aries.specs.Bodies.{startsWith}
-use Rattle.aries.specs.Setup.{withProgress, atStage, freshProgram, setMachine, setOrdinary, offsetBy, ordinaryFrame, openBody}
+use Rattle.aries.specs.Bodies.{Store, withStored, openBody}
+
+-- ---- A program under way, changed in one respect
+
+abbrev pub withProgress : Program → Progress → Program
+withProgress p g = record { stage = p .stage; setup = p .setup; macros = p .macros; progress = g }
+
+abbrev pub withSetup : Program → Setup → Program
+withSetup p s = record { stage = p .stage; setup = s; macros = p .macros; progress = p .progress }
+
+abbrev pub atStage : Stage → Program → Program
+atStage t p = record { stage = t; setup = p .setup; macros = p .macros; progress = p .progress }
+
+-- At the start nothing is stored.
+abbrev pub freshProgram : Job → Program
+freshProgram job = record { stage = Fresh; setup = freshSetup job; macros = noMacros; progress = freshProgress }
 
 -- ---- The order of blocks (refusal 7)
 
-abbrev pub isMachine : Block → Bool
-isMachine (Machine q) = true
-isMachine End = false
-isMachine Read = false
-isMachine (Punch a t) = false
-isMachine (Move a t) = false
-isMachine (Origin a) = false
-isMachine (Offset a) = false
-isMachine (Place l) = false
-isMachine (Run q t a) = false
-isMachine (Recall k) = false
-isMachine (Nibble b) = false
-isMachine Idle = false
-isMachine (Open k) = false
-isMachine (Close k) = false
-isMachine (Call k) = false
-isMachine (Copy c) = false
+abbrev pub isMachine : Outside → Bool
+isMachine (Outside.Machine q) = true
+isMachine Outside.End = false
+isMachine (Outside.Offset a) = false
+isMachine (Outside.Layout l) = false
+isMachine (Outside.Open n) = false
+isMachine (Outside.Close n) = false
+isMachine (Outside.Copy c) = false
+
+-- a block is G92
+abbrev pub startsProgram : Block → Bool
+startsProgram (Block.Direct d) = false
+startsProgram (Block.Call n) = false
+startsProgram (Block.Outside o) = isMachine o
 
 -- The first block is G92, G92 comes once, and nothing follows G50.
 abbrev pub inPlace : Stage → Block → Bool
-inPlace Fresh b = isMachine b
-inPlace Running b = not (isMachine b)
+inPlace Fresh b = startsProgram b
+inPlace Running b = not (startsProgram b)
 inPlace Storing b = false
 inPlace Ended b = false
 
 -- ---- Blocks outside bodies
 
--- a block that may stand in a body as well; four calls may be opened
-abbrev pub asInBody : Judging → List ℕ → ℕ → Block → Program → Out (Made Program)
-unfolding carry call
-asInBody j text line b p =
-    leaving (withProgress p)
-    (carry j (call j text (p .setup .macros) (ordinaryFrame (p .setup)) mostCalls) (ordinaryFrame (p .setup)) line b (p .progress))
+-- G92 makes its X, Y the current point.
+abbrev pub startAs : Program → Point → Machine → Program
+startAs p q m =
+    record {
+      stage = Running;
+      setup = withMachine (p .setup) m;
+      macros = p .macros;
+      progress = withState (p .progress) (movedTo (p .progress .state) q);
+    }
 
--- One block that has been decoded, counted and found in its place. The next line starts at a place of the text, and
--- the lines given follow.
+-- 8: G92 names one of the machines.
+abbrev pub started : Program → Point → ℕ → Named → Out (Made Program)
+started p q line Neither = refused 8 line
+started p q line (As m) = still (startAs p q m)
+
+-- G93 and G98: neither moves the current point or drops a waiting origin.
+abbrev pub settled : Program → Out Setup → Out (Made Program)
+settled p out = do
+  s ← out
+  still (withSetup p s)
+
+-- after a U line the lines of its body are passed over
+abbrev pub withStore : Program → Store → Program
+withStore p st = record { stage = Storing; setup = p .setup; macros = st .macros; progress = st .progress }
+
+-- A block that stands only outside bodies. The next line starts at a place of the text, and the lines given follow.
+unfoldable pub carryOutside : Judging → List ℕ → ℕ → ℕ → List (List ℕ) → Outside → Program → Out (Made Program)
+unfolding named setOrigin openBody copyPart bodiesOf
+carryOutside j text next line ls (Outside.Machine q) p = started p q line (named q)
+carryOutside j text next line ls Outside.End p = still (atStage Ended p)
+carryOutside j text next line ls (Outside.Offset a) p = settled p (setOrigin j line (p .setup .sheet) (offsetBy a (p .setup .offset)) (p .setup))
+carryOutside j text next line ls (Outside.Layout l) p = settled p (setOrigin j line (LaidOut l) (p .setup .offset) (p .setup))
+carryOutside j text next line ls (Outside.Open n) p = leaving (withStore p) (openBody j text n next line ls (p .setup) (withStored (p .macros) (p .progress)))
+carryOutside j text next line ls (Outside.Close n) p = refused 9 line
+carryOutside j text next line ls (Outside.Copy c) p = leaving (withProgress p) (copyPart j (bodiesOf text (p .macros)) (p .setup) line c (p .progress))
+
+-- One block that has begun and is in its place. Four calls may be opened.
 unfoldable pub carryOut : Judging → List ℕ → ℕ → ℕ → List (List ℕ) → Block → Program → Out (Made Program)
-unfolding carry call setMachine setOrdinary openBody copyPart
-carryOut j text next line ls (Machine q) p = setMachine line q p
-carryOut j text next line ls End p = still (atStage Ended p)
-carryOut j text next line ls Read p = asInBody j text line Read p
-carryOut j text next line ls (Punch a t) p = asInBody j text line (Punch a t) p
-carryOut j text next line ls (Move a t) p = asInBody j text line (Move a t) p
-carryOut j text next line ls (Origin a) p = asInBody j text line (Origin a) p
-carryOut j text next line ls (Offset a) p = setOrdinary j line (p .setup .sheet) (offsetBy a (p .setup .offset)) p
-carryOut j text next line ls (Place l) p = setOrdinary j line (LaidOut l) (p .setup .offset) p
-carryOut j text next line ls (Run q t a) p = asInBody j text line (Run q t a) p
-carryOut j text next line ls (Recall k) p = asInBody j text line (Recall k) p
-carryOut j text next line ls (Nibble b) p = asInBody j text line (Nibble b) p
-carryOut j text next line ls Idle p = asInBody j text line Idle p
-carryOut j text next line ls (Open k) p = openBody j text k next line ls p
-carryOut j text next line ls (Close k) p = refused 9 line
-carryOut j text next line ls (Call k) p = asInBody j text line (Call k) p
-carryOut j text next line ls (Copy c) p = leaving (withProgress p) (copyPart j text (p .setup) line c (p .progress))
+unfolding carry call carryOutside bodiesOf
+carryOut j text next line ls (Block.Direct d) p =
+    leaving (withProgress p) (carry j (call j (bodiesOf text (p .macros)) mostCalls) (ordinaryFrame (p .setup)) line (Block.Direct d) (p .progress))
+carryOut j text next line ls (Block.Call n) p =
+    leaving (withProgress p) (carry j (call j (bodiesOf text (p .macros)) mostCalls) (ordinaryFrame (p .setup)) line (Block.Call n) (p .progress))
+carryOut j text next line ls (Block.Outside o) p = carryOutside j text next line ls o p
 
 -- ---- Lines
 
@@ -100,22 +135,16 @@ isStoring Ended = false
 abbrev pub passOver : List ℕ → Program → Out (Made Program)
 passOver l p = elim (startsWith letterV l) [ true ↦ still (atStage Running p) | false ↦ still p ]
 
--- a block begins; a V line is not counted
-abbrev pub begunOutside : List ℕ → Progress → Measure → Progress
-begunOutside l g m = pick (startsWith letterV l) (withState g (measuring (g .state) m)) (begun g m)
-
--- A block. 3 does not judge a V line.
+-- A block outside bodies.
 unfoldable pub runBlockOutside : Judging → List ℕ → ℕ → ℕ → List ℕ → List (List ℕ) → Program → Out (Made Program)
-unfolding decode carryOut
+unfolding begin carryOut
 runBlockOutside j text next line l ls p = do
-  _ ← need (either (startsWith letterV l) (room (j .blocks) (p .progress .blocks))) 3 line
-  i ← decode l line
-  _ ← need (inPlace (p .stage) (i .block)) 7 line
-  carryOut j text next line ls (i .block) (withProgress p (begunOutside l (p .progress) (i .measure)))
+  b ← begin j line l (p .progress)
+  _ ← need (inPlace (p .stage) (b .block)) 7 line
+  carryOut j text next line ls (b .block) (withProgress p (b .progress))
 
 -- a blank line does nothing
 abbrev pub runLineOutside : Judging → List ℕ → ℕ → ℕ → List ℕ → List (List ℕ) → Program → Out (Made Program)
-unfolding runBlockOutside
 runLineOutside j text next line [] ls p = still p
 runLineOutside j text next line (b ∷ bs) ls p = elim (isStoring (p .stage)) [
   | true ↦ passOver (b ∷ bs) p
@@ -143,10 +172,10 @@ noStray none = done tt
 noStray (some line) = refused 2 line
 
 -- the blocks of a text without spaces; it ends with G50, else it is refused in the last line
-unfoldable pub perform : Judging → List ℕ → ℕ → Out (List Hit)
+unfoldable pub perform : Job → List ℕ → ℕ → Out (List Hit)
 unfolding runFrom lines
-perform j text last = do
-  m ← runFrom j text 0 1 (lines text) freshProgram
+perform job text last = do
+  m ← runFrom (limits job) text 0 1 (lines text) (freshProgram job)
   _ ← need (isEnded (m .after .stage)) 7 last
   done (m .hits)
 
@@ -156,7 +185,7 @@ unfolding perform strayLine withoutSpaces
 expand text numbers = do
   _ ← need (within 1 longest (length text)) 1 0
   _ ← noStray (strayLine 1 text)
-  perform (lent numbers) (withoutSpaces text) (length (lines text))
+  perform (lending numbers) (withoutSpaces text) (length (lines text))
 
 -- ---- The answer
 

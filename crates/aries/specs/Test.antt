@@ -1,13 +1,12 @@
 -- Tests and their combinations.
-use mathlib.Core.Bool.{Bool, true, false}
+use mathlib.Core.Bool.{Bool, true, false, cond, _||_}
 use mathlib.Core.List.{List, [], _∷_}
 use Prim.Native.Nat.{ℕ}
 use lib.Dec.{leb, eqb}
 pub use Rattle.signed.specs.Signed.{both}
 
 abbrev pub either : Bool → Bool → Bool
-either true b = true
-either false b = b
+either a b = a || b
 
 -- a ≤ x ≤ b
 abbrev pub within : ℕ → ℕ → ℕ → Bool
@@ -25,5 +24,4 @@ every f (a ∷ rest) = both (f a) (every f rest)
 
 -- one of two values by a test; both are computed, so it holds no recursive call
 abbrev pub pick : {A : Type 0} → Bool → A → A → A
-pick true a b = a
-pick false a b = b
+pick t a b = cond t a b

@@ -7,6 +7,7 @@ use Prim.Native.Char.{code}
 use Prim.Native.String.{String}
 use Prim.Native.String as S
 use lib.Dec.{eqb}
+use lib.ListN.{getD}
 use Rattle.aries.specs.Test.{either, within, among}
 
 -- the most bytes a text may have
@@ -33,6 +34,10 @@ isDigit b = within 48 57 b
 -- a capital, a digit, a space, a line feed, plus, minus or point
 abbrev pub isAllowed : ℕ → Bool
 isAllowed b = either (isCapital b) (either (isDigit b) (among (space ∷ lineFeed ∷ 43 ∷ 45 ∷ 46 ∷ []) b))
+
+-- the first byte of a line
+abbrev pub startsWith : ℕ → List ℕ → Bool
+startsWith letter l = eqb (getD l 0 0) letter
 
 -- the line of the first byte that is not allowed; the text starts in the line given
 unfoldable pub strayLine : ℕ → List ℕ → Option ℕ

@@ -94,24 +94,16 @@ pub struct Copies {
     pub corner: u8,
 }
 
-// What a block asks for. A tool of 0 is no T, a memory of 0 no A.
-pub enum Block {
-    // G92
-    Machine(Point),
-    // G50
-    End,
+// A block that is carried out where it stands, in a body and outside bodies. A tool of 0 is no T, a memory of 0 no A.
+pub enum Direct {
     // a lone G90 or G91
-    Read,
+    Lone,
     // X or Y without a code: a hit
     Punch(Axes, u8),
     // G70
     Move(Axes, u8),
     // G72
-    Origin(Axes),
-    // G93
-    Offset(Axes),
-    // G98
-    Place(Layout),
+    PatternOrigin(Axes),
     // a pattern code
     Run(Pattern, u8, u8),
     // B
@@ -120,14 +112,31 @@ pub enum Block {
     Nibble(bool),
     // M00, M01, M08, M09
     Idle,
+}
+
+// A block that stands only outside bodies.
+pub enum Outside {
+    // G92
+    Machine(Point),
+    // G50
+    End,
+    // G93
+    Offset(Axes),
+    // G98
+    Layout(Layout),
     // U
     Open(u8),
     // V
     Close(u8),
-    // W
-    Call(u8),
     // G75 and G76
     Copy(Copies),
+}
+
+// What a block asks for, by where it may stand: direct blocks and calls, by W, stand anywhere.
+pub enum Block {
+    Direct(Direct),
+    Call(u8),
+    Outside(Outside),
 }
 
 // How X and Y are read from a block on: as before, by G90 or by G91.
@@ -143,10 +152,10 @@ pub struct Instruction {
     pub block: Block,
 }
 
-// What a line comes to: an instruction, or a refusal's number and line.
+// What a line comes to: an instruction, and the place where the line ends; or a refusal's number.
 pub enum Decoded {
-    Instruction(Instruction),
-    Refused(u8, u64),
+    Instruction(Instruction, usize),
+    Refused(u8),
 }
 
 // What a block is judged to be: of a kind, with its G90 or G91, or a refusal's number.

@@ -1,6 +1,6 @@
 ghost use mathlib.Core.Path.{_≡_};
-ghost use Prim.Native.Nat.{_≤_};
-ghost use Rattle.aries.specs.Macros.{noMacros, storing, characters, foundIn, Within};
+ghost use Prim.Native.Nat.{_-_, _≤_};
+ghost use Rattle.aries.specs.Macros.{noMacros, storing, characters, foundIn};
 
 // The stored bodies, by macro number: where each starts and ends in the text without spaces, and the line of its
 // start. Line 0 says that nothing is stored.
@@ -60,17 +60,25 @@ impl Macros {
 
     // The characters of all bodies.
     pub fn characters(self) -> usize
-        requires { ⌜ Within self 65535 ⌝ }
         ensures { λ r. ⌜ r ≡ characters self ⌝ }
     {
         let mut total = 0;
         let mut n = 0;
         while n < 90 {
-            let start = self.start[n];
-            let end = self.end[n];
-            total += (end - start) as usize;
+            total += size(self.start[n], self.end[n]);
             n += 1;
         }
         total
+    }
+}
+
+// The characters of a body from one place to another.
+fn size(start: u16, end: u16) -> usize
+    ensures { λ r. ⌜ (r ≡ end - start) × (r ≤ 65535) ⌝ }
+{
+    if start < end {
+        (end - start) as usize
+    } else {
+        0
     }
 }

@@ -1,7 +1,5 @@
 ghost use mathlib.Core.Path.{_≡_};
-ghost use mathlib.Core.Bool.{true};
-ghost use Rattle.aries.specs.Judging.{near};
-ghost use Rattle.aries.specs.Places.{pointOf};
+ghost use Rattle.aries.specs.Places.{pointOf, located};
 
 // The largest size of a coordinate, in hundredths.
 pub const FARTHEST: u32 = 999_999;
@@ -18,30 +16,27 @@ pub struct Place {
     pub y: i64,
 }
 
+// A place, judged by 15.
+pub enum Located {
+    At(Point),
+    TooFar,
+}
+
 impl Place {
-    // Whether both coordinates are within the largest size.
-    pub fn is_near(self) -> bool
-        ensures { λ r. ⌜ r ≡ near (pointOf self) ⌝ }
+    // The point of a place, if both coordinates are within the largest size.
+    pub fn located(self) -> Located
+        ensures { λ r. ⌜ r ≡ located (pointOf self) ⌝ }
     {
         let x = self.x;
         let y = self.y;
         if signed::size_at_most(x, FARTHEST) {
-            signed::size_at_most(y, FARTHEST)
-        } else {
-            false
+            if signed::size_at_most(y, FARTHEST) {
+                return Located::At(Point {
+                    x: signed::narrow(x),
+                    y: signed::narrow(y),
+                });
+            }
         }
-    }
-
-    // The point, once it is known to be near.
-    pub fn point(self) -> Point
-        requires { ⌜ near (pointOf self) ≡ true ⌝ }
-        ensures { λ r. ⌜ r ≡ pointOf self ⌝ }
-    {
-        let x = self.x;
-        let y = self.y;
-        Point {
-            x: signed::narrow(x),
-            y: signed::narrow(y),
-        }
+        Located::TooFar
     }
 }

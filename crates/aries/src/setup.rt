@@ -1,26 +1,16 @@
 use crate::block::Layout;
+use crate::job::Job;
 use crate::machine::Machine;
 use crate::macros::Macros;
 use crate::point::Point;
 use crate::state::Frame;
 use crate::state::Progress;
-use crate::state::State;
 use crate::state::Status;
 ghost use mathlib.Core.Path.{_≡_};
 ghost use Rattle.aries.specs.declared.state.Status.the-variants.{Passed, Refused};
-ghost use Rattle.aries.specs.Setup.{
-  withProgress,
-  withSetup,
-  atStage,
-  freshSetup,
-  freshProgram,
-  withMachine,
-  startAs,
-  referenceOf,
-  ordinaryFrame,
-  withMacros,
-  stored,
-};
+ghost use Rattle.aries.specs.Setup.{freshSetup, withMachine, referenceOf, withOrigin, ordinaryFrame};
+ghost use Rattle.aries.specs.Moves.{_⊕_};
+ghost use Rattle.aries.specs.Program.{withProgress, freshProgram};
 
 // Whether G98 is in force.
 pub enum Sheet {
@@ -40,28 +30,27 @@ impl Sheet {
     }
 }
 
-// What only blocks outside bodies change. The origin is the ordinary one, reference plus offset.
+// What G92, G93 and G98 set up for a job. The origin is reference plus offset.
 pub struct Setup {
+    pub job: Job,
     pub machine: Machine,
     pub sheet: Sheet,
     pub offset: Point,
     pub origin: Point,
-    pub macros: Macros,
 }
 
 impl Setup {
     // The setup at the start.
-    pub fn fresh() -> Setup
-        ensures { λ r. ⌜ r ≡ freshSetup ⌝ }
+    pub fn fresh(job: Job) -> Setup
+        ensures { λ r. ⌜ r ≡ freshSetup job ⌝ }
     {
         let zero = Point { x: 0, y: 0 };
-        let macros = Macros::none();
         Setup {
+            job,
             machine: Machine::Aries222,
             sheet: Sheet::Plain,
             offset: zero,
             origin: zero,
-            macros,
         }
     }
 
@@ -69,48 +58,46 @@ impl Setup {
     pub fn frame(self) -> Frame
         ensures { λ r. ⌜ r ≡ ordinaryFrame self ⌝ }
     {
+        let job = self.job;
         let machine = self.machine;
         let origin = self.origin;
-        Frame { machine, origin }
+        Frame {
+            job,
+            machine,
+            origin,
+        }
     }
 
     // The setup with another machine.
     pub fn with_machine(self, machine: Machine) -> Setup
         ensures { λ r. ⌜ r ≡ withMachine self machine ⌝ }
     {
+        let job = self.job;
         let sheet = self.sheet;
         let offset = self.offset;
         let origin = self.origin;
-        let macros = self.macros;
         Setup {
+            job,
             machine,
             sheet,
             offset,
             origin,
-            macros,
         }
     }
 
-    // The setup with other bodies stored.
-    pub fn with_macros(mut self, macros: Macros) -> Setup
-        ensures { λ r. ⌜ r ≡ withMacros self macros ⌝ }
-    {
-        self.macros = macros;
-        self
-    }
-
-    // The setup with another layout, offset and ordinary origin.
+    // The setup with another layout and offset, and their origin.
     pub fn with_origin(self, sheet: Sheet, offset: Point, origin: Point) -> Setup
-        ensures { λ r. ⌜ r ≡ record { machine = self .machine; sheet = sheet; offset = offset; origin = origin; macros = self .macros } ⌝ }
+        requires { ⌜ origin ≡ referenceOf sheet ⊕ offset ⌝ }
+        ensures { λ r. ⌜ r ≡ withOrigin self sheet offset ⌝ }
     {
+        let job = self.job;
         let machine = self.machine;
-        let macros = self.macros;
         Setup {
+            job,
             machine,
             sheet,
             offset,
             origin,
-            macros,
         }
     }
 }
@@ -127,24 +114,22 @@ pub enum Stage {
 pub struct Program {
     pub stage: Stage,
     pub setup: Setup,
+    pub macros: Macros,
     pub progress: Progress,
 }
 
 impl Program {
     // The program at its start.
-    pub fn fresh() -> Program
-        ensures { λ r. ⌜ r ≡ freshProgram ⌝ }
+    pub fn fresh(job: Job) -> Program
+        ensures { λ r. ⌜ r ≡ freshProgram job ⌝ }
     {
-        let setup = Setup::fresh();
-        let state = State::fresh();
-        let progress = Progress {
-            state,
-            blocks: 0,
-            hits: 0,
-        };
+        let setup = Setup::fresh(job);
+        let macros = Macros::none();
+        let progress = Progress::fresh();
         Program {
             stage: Stage::Fresh,
             setup,
+            macros,
             progress,
         }
     }
@@ -155,56 +140,6 @@ impl Program {
     {
         self.progress = progress;
         self
-    }
-
-    // The program with another setup.
-    pub fn with_setup(mut self, setup: Setup) -> Program
-        ensures { λ r. ⌜ r ≡ withSetup self setup ⌝ }
-    {
-        self.setup = setup;
-        self
-    }
-
-    // The program at another stage.
-    pub fn at_stage(self, stage: Stage) -> Program
-        ensures { λ r. ⌜ r ≡ atStage stage self ⌝ }
-    {
-        let setup = self.setup;
-        let progress = self.progress;
-        Program {
-            stage,
-            setup,
-            progress,
-        }
-    }
-
-    // G92: the machine, and its X, Y as the current point.
-    pub fn start_as(self, pair: Point, machine: Machine) -> Program
-        ensures { λ r. ⌜ r ≡ startAs self pair machine ⌝ }
-    {
-        let setup = self.setup;
-        let progress = self.progress;
-        let state = progress.state;
-        let named = setup.with_machine(machine);
-        let moved = progress.with_state(state.moved_to(pair));
-        Program {
-            stage: Stage::Running,
-            setup: named,
-            progress: moved,
-        }
-    }
-
-    // A U line: its body is stored, and the lines up to its V line are passed over.
-    pub fn stored(self, macros: Macros, progress: Progress) -> Program
-        ensures { λ r. ⌜ r ≡ stored self macros progress ⌝ }
-    {
-        let setup = self.setup;
-        let kept = setup.with_macros(macros);
-        Program {
-            stage: Stage::Storing,
-            setup: kept,
-            progress,
-        }
     }
 }
 

@@ -1,8 +1,11 @@
 use crate::block::Measure;
 use crate::block::Pattern;
+use crate::job::Job;
 use crate::machine::Machine;
+use crate::point::Place;
 use crate::point::Point;
 ghost use mathlib.Core.Path.{_≡_};
+ghost use mathlib.Core.Bool.{true};
 ghost use Prim.Native.Nat.{_-_, _<_};
 ghost use lib.ListN.{getD};
 ghost use Rattle.aries.specs.declared.state.Waiting.the-variants.{At};
@@ -16,11 +19,15 @@ ghost use Rattle.aries.specs.Moves.{
   measuring,
   dropping,
   freshState,
+  freshProgress,
   withState,
 };
 ghost use Rattle.aries.specs.Patterns.{startOf, emptyMemory};
 ghost use Rattle.aries.specs.Macros.{begun};
 ghost use Rattle.aries.specs.Judging.{mostBlocks};
+ghost use Rattle.aries.specs.Machine.{inRange};
+ghost use Rattle.aries.specs.Places.{pointOf};
+ghost use Rattle.aries.specs.Setup.{frameAt};
 
 // The pattern origin that G72 set and no pattern has used up yet.
 pub enum Waiting {
@@ -188,10 +195,29 @@ impl State {
     }
 }
 
-// Where X and Y are measured from, and the machine whose range is judged.
+// What a block is carried out in: the caller's job, where X and Y are measured from, and the machine whose range is judged.
 pub struct Frame {
+    pub job: Job,
     pub machine: Machine,
     pub origin: Point,
+}
+
+impl Frame {
+    // The same frame with another origin.
+    pub fn at(mut self, origin: Point) -> Frame
+        ensures { λ r. ⌜ r ≡ frameAt self origin ⌝ }
+    {
+        self.origin = origin;
+        self
+    }
+
+    // Whether a place is in the punching range.
+    pub fn covers(self, place: Place) -> bool
+        ensures { λ r. ⌜ r ≡ inRange self (pointOf place) ⌝ }
+    {
+        let machine = self.machine;
+        machine.covers(place)
+    }
 }
 
 // A state with the count of blocks carried out and of hits made so far.
@@ -202,6 +228,18 @@ pub struct Progress {
 }
 
 impl Progress {
+    // At the start.
+    pub fn fresh() -> Progress
+        ensures { λ r. ⌜ r ≡ freshProgress ⌝ }
+    {
+        let state = State::fresh();
+        Progress {
+            state,
+            blocks: 0,
+            hits: 0,
+        }
+    }
+
     // The same counts with another state.
     pub fn with_state(mut self, s: State) -> Progress
         ensures { λ r. ⌜ r ≡ withState self s ⌝ }
@@ -210,15 +248,17 @@ impl Progress {
         self
     }
 
-    // One block more, with its G90 or G91.
-    pub fn begun(mut self, m: Measure) -> Progress
-        requires { ⌜ self .blocks < mostBlocks ⌝ }
-        ensures { λ r. ⌜ r ≡ begun self m ⌝ }
+    // A block begins, with its G90 or G91: one more, if it counts.
+    pub fn begun(mut self, counted: bool, m: Measure) -> Progress
+        requires { ⌜ (counted ≡ true → self .blocks < mostBlocks) ⌝ }
+        ensures { λ r. ⌜ r ≡ begun counted m self ⌝ }
     {
         let state = self.state;
         let measured = state.measuring(m);
         self.state = measured;
-        self.blocks += 1;
+        if counted {
+            self.blocks += 1;
+        }
         self
     }
 }

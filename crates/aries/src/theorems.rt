@@ -1,11 +1,10 @@
 ghost use Rattle.aries.specs.CopyRuns.{BothOrNeither, EqualExactlyWhen, LayoutSentence, ReferenceMoves};
-ghost use Rattle.aries.specs.CopyBlocks.{CopyBlocksRun};
-ghost use Rattle.aries.specs.Ordinary.{FreshOrdinary, LineKeepsOrdinary, LinesKeepOrdinary, MovingKeepsOrdinary};
+ghost use Rattle.aries.specs.CopyBlocks.{CopyLinesRun, ReachedOrdinary, OriginMoves};
 ghost use Rattle.aries.specs.Plates.{PlatesHold};
 
 // What is proved of the definitions alone. Each function does nothing; its contract is the theorem.
 
-// Demand 3: by G75 and by G76, all else alike, both runs are accepted or both are refused.
+// Demand 3: by G75 and by G76, all else alike, both runs, of whichever texts, are accepted or both are refused.
 pub fn both_or_neither()
     ensures { λ _. ⌜ BothOrNeither ⌝ }
 {}
@@ -25,29 +24,19 @@ pub fn reference_moves()
     ensures { λ _. ⌜ ReferenceMoves ⌝ }
 {}
 
-// A G75 or G76 block of a program is a run that the four theorems above speak of.
-pub fn copy_blocks_run()
-    ensures { λ _. ⌜ CopyBlocksRun ⌝ }
+// A line of a program that asks for G75 or G76 is a run that the four theorems above speak of.
+pub fn copy_lines_run()
+    ensures { λ _. ⌜ CopyLinesRun ⌝ }
 {}
 
-// The origin of a setup is reference plus offset at the start,
-pub fn fresh_ordinary()
-    ensures { λ _. ⌜ FreshOrdinary ⌝ }
+// Wherever a program comes, the origin is reference plus offset,
+pub fn reached_ordinary()
+    ensures { λ _. ⌜ ReachedOrdinary ⌝ }
 {}
 
-// every line keeps it so,
-pub fn line_keeps_ordinary()
-    ensures { λ _. ⌜ LineKeepsOrdinary ⌝ }
-{}
-
-// lines in turn do,
-pub fn lines_keep_ordinary()
-    ensures { λ _. ⌜ LinesKeepOrdinary ⌝ }
-{}
-
-// and so does moving the reference point.
-pub fn moving_keeps_ordinary()
-    ensures { λ _. ⌜ MovingKeepsOrdinary ⌝ }
+// so that moving the reference point moves the origin along.
+pub fn origin_moves()
+    ensures { λ _. ⌜ OriginMoves ⌝ }
 {}
 
 // The plates of document 01, as rows of one list.

@@ -15,27 +15,6 @@ Inv-loop self total₀ n₀ total n = (n ≤ 90) × (total ≤ 65535 * n) × (to
 abbrev μ-loop : tie.MeasureT-loop
 μ-loop self total₀ n₀ total n = 90 - n
 
--- what is known of the body that is added
-module _ (c : tie.After-end Inv-loop μ-loop) where
-  n : ℕ
-  n = c .before .before .before .loop .n
-
-  from : ℕ
-  unfolding n
-  from = getD (c .before .before .before .before .args .t1 .start) n 0
-
-  to : ℕ
-  unfolding n
-  to = getD (c .before .before .before .before .args .t1 .end) n 0
-
-  ordered : from ≤ to
-  unfolding from to
-  ordered = c .before .before .before .before .pre .ordered n
-
-  small : to ≤ 65535
-  unfolding to
-  small = c .before .before .before .before .pre .inside n
-
 start-length : (c : tie.Start Inv-loop μ-loop) → length (c .args .t1 .start) ≡ 90
 start-length c = search needs
 
@@ -46,29 +25,23 @@ loop-holds : tie.Need-loop-holds Inv-loop μ-loop
 unfolding characters
 loop-holds c = search needs
 
-mul-start : tie.Need-mul-start Inv-loop μ-loop
-mul-start c = search needs
+mul-size : tie.Need-mul-size Inv-loop μ-loop
+mul-size c = search needs
 
-element-copy-out-start : tie.Need-element-copy-out-start Inv-loop μ-loop
-element-copy-out-start c = search needs
+element-copy-out-size : tie.Need-element-copy-out-size Inv-loop μ-loop
+element-copy-out-size c = search needs
 
-mul-end : tie.Need-mul-end Inv-loop μ-loop
-mul-end c = search needs
+mul-size-2 : tie.Need-mul-size-2 Inv-loop μ-loop
+mul-size-2 c = search needs
 
-element-copy-out-end : tie.Need-element-copy-out-end Inv-loop μ-loop
-element-copy-out-end c = search needs
+element-copy-out-size-2 : tie.Need-element-copy-out-size-2 Inv-loop μ-loop
+element-copy-out-size-2 c = search needs
 
-sub-total : tie.Need-sub-total Inv-loop μ-loop
-unfolding n from to
-sub-total c = omega (arith, ordered c, small c)
-
-cast-total : tie.Need-cast-total Inv-loop μ-loop
-unfolding n from to
-cast-total c = omega (arith, ordered c, small c)
+size-requires : tie.Need-size-requires Inv-loop μ-loop
+size-requires c κs = search needs
 
 add-total : tie.Need-add-total Inv-loop μ-loop
-unfolding n from to
-add-total c = omega (arith, ordered c, small c)
+add-total c = omega (arith, c .size .ensures .1)
 
 add-n : tie.Need-add-n Inv-loop μ-loop
 add-n c = search needs
@@ -77,14 +50,11 @@ loop-less : tie.Need-loop-less Inv-loop μ-loop
 loop-less c = search needs
 
 loop-again : tie.Need-loop-again Inv-loop μ-loop
-unfolding n from to
 loop-again c =
-    let a = c .before .before .before .before .args .t1 in
-    let l = c .before .before .before .loop in
-    let h : l .n < length (a .start) = omega (arith, start-length (c .before .before .before .before)) in
-    let i : l .n < length (a .end) = omega (arith, end-length (c .before .before .before .before)) in
-    let e = sizes-step (a .start) (a .end) (l .n) h i in
-    (omega arith, omega (arith, ordered c, small c), omega (arith, e, ordered c, l .inv .2))
+    let l = c .before .before .before .before .loop in
+    let entry = c .before .before .before .before .before in
+    let e = sizes-step (entry .args .t1 .start) (entry .args .t1 .end) (l .n) (omega (arith, start-length entry)) (omega (arith, end-length entry)) in
+    (omega arith, omega (arith, c .size .ensures .1), omega (arith, e, c .size .ensures .0, l .inv .2))
 
 returns : tie.Need-returns Inv-loop μ-loop
 returns c =
@@ -101,12 +71,11 @@ characters-spec =
     Inv-loop
     μ-loop
     loop-holds
-    mul-start
-    element-copy-out-start
-    mul-end
-    element-copy-out-end
-    sub-total
-    cast-total
+    mul-size
+    element-copy-out-size
+    mul-size-2
+    element-copy-out-size-2
+    size-requires
     add-total
     add-n
     loop-less

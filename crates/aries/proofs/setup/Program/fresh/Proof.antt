@@ -1,8 +1,4 @@
--- Setup and state are fresh.
-use mathlib.Core.Path.{ap₂}
-use Rattle.aries.specs.declared.setup.Setup.{Setup}
-use Rattle.aries.specs.declared.setup.Stage.the-variants.{Fresh}
-use Rattle.aries.specs.declared.state.State.{State}
+-- Setup, store and progress are fresh.
 use borrow.Author.Needs.{needs}
 use Rattle.aries.proofs.setup.Program.fresh.Statement.{statement}
 use Rattle.aries.proofs.setup.Program.fresh.Tie as tie
@@ -10,11 +6,14 @@ use Rattle.aries.proofs.setup.Program.fresh.Tie as tie
 fresh-requires : tie.Need-fresh-requires
 fresh-requires c κs = search needs
 
+none-requires : tie.Need-none-requires
+none-requires c κs = search needs
+
 fresh-requires-2 : tie.Need-fresh-requires-2
 fresh-requires-2 c κs = search needs
 
 returns : tie.Need-returns
-returns c = ap₂ (λ (s : Setup) (t : State). record { stage = Fresh; setup = s; progress = record { state = t; blocks = 0; hits = 0 } }) (c .before .fresh .ensures) (c .fresh2 .ensures)
+returns c = simp (c .before .before .fresh .ensures, c .before .none .ensures, c .fresh2 .ensures)
 
 pub fresh-spec : {M : Type 1} → statement M
-fresh-spec = tie.close (tie.spec fresh-requires fresh-requires-2 returns)
+fresh-spec = tie.close (tie.spec fresh-requires none-requires fresh-requires-2 returns)
