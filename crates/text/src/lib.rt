@@ -1,6 +1,7 @@
 // The bytes of a program text: which are allowed, the text without its spaces, and where its lines end.
 ghost use mathlib.Core.Path.{_≡_};
 ghost use Prim.Native.Nat.{_+_, _≤_};
+ghost use lib.Dec.{leb};
 ghost use lib.ListN.{length, drop};
 ghost use Rattle.aries.specs.Text.{isAllowed, lines};
 ghost use Rattle.text.specs.Cleaning.{Clean};
@@ -59,10 +60,9 @@ fn is_allowed(b: u8) -> bool
     (bits >> (b % 64)) % 2 == 1
 }
 
-// Where the line ends that starts at a place: at its line feed, or at the end of the text.
+// Where the line ends that starts at a place: at its line feed, or at the end of the text. A place past the end stays.
 pub fn line_end(text: &[u8], from: usize) -> usize
-    requires { ⌜ from ≤ length (now text) ⌝ }
-    ensures { λ r. ⌜ (r ≡ from + lineLength (drop from (now (text .entry)))) × (r ≤ length (now (text .entry))) ⌝ }
+    ensures { λ r. ⌜ r ≡ from + lineLength (drop from (now (text .entry))) ⌝ }
 {
     let mut i = from;
     while i < text.len() {
@@ -74,12 +74,12 @@ pub fn line_end(text: &[u8], from: usize) -> usize
     i
 }
 
-// Where the next block starts, from a place between two lines on: past the line feeds that stand there.
+// Where the next block starts, from a place between two lines on: past the line feeds that stand there. A place past the
+// end stays.
 pub fn next_block(text: &[u8], from: usize) -> usize
-    requires { ⌜ from ≤ length (now text) ⌝ }
-    ensures { λ r. ⌜ (r ≡ from + blanks (drop from (now (text .entry)))) × (r ≤ length (now (text .entry))) ⌝ }
+    ensures { λ r. ⌜ r ≡ from + blanks (drop from (now (text .entry))) ⌝ }
 {
-    let mut i = from;
+    let mut i = skip_eights(text, from);
     while i < text.len() {
         if text[i] != LINE_FEED {
             return i;
@@ -87,6 +87,37 @@ pub fn next_block(text: &[u8], from: usize) -> usize
         i += 1;
     }
     i
+}
+
+// Passes over line feeds, eight at a time: the next block lies where it lay. Free is how many are left before it.
+fn skip_eights(text: &[u8], from: usize) -> usize
+    ensures { λ r. ⌜ r + blanks (drop r (now (text .entry))) ≡ from + blanks (drop from (now (text .entry))) ⌝ }
+{
+    let mut i = from;
+    while are_eight_feeds(text, i) {
+        i += 8;
+    }
+    i
+}
+
+// Whether at least eight line feeds stand at a place: no byte ends the test, so that it is compiled to one comparison.
+fn are_eight_feeds(text: &[u8], at: usize) -> bool
+    ensures { λ r. ⌜ r ≡ leb 8 (blanks (drop at (now (text .entry)))) ⌝ }
+{
+    if text.len() < 8 {
+        return false;
+    }
+    if text.len() - 8 < at {
+        return false;
+    }
+    (text[at] == LINE_FEED)
+        & (text[at + 1] == LINE_FEED)
+        & (text[at + 2] == LINE_FEED)
+        & (text[at + 3] == LINE_FEED)
+        & (text[at + 4] == LINE_FEED)
+        & (text[at + 5] == LINE_FEED)
+        & (text[at + 6] == LINE_FEED)
+        & (text[at + 7] == LINE_FEED)
 }
 
 // How many lines a text has.
