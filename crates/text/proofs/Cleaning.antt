@@ -16,7 +16,7 @@ use Rattle.aries.specs.Test.{both, every}
 use Rattle.aries.specs.Text.{space, lineFeed, isAllowed, strayLine, withoutSpaces}
 use Rattle.text.specs.Cleaning.{Clean, Copied, orZero}
 use Rattle.text.specs.declared.Cleaned.the-variants.{Stray, Dense}
-use Rattle.text.proofs.Tests.{and-both}
+use Rattle.text.proofs.Tests.{both-and}
 
 -- ---- whether all bytes are allowed
 
@@ -25,7 +25,7 @@ module _ (t : List ℕ) (i : ℕ) where
   pub allowed-at :
       i < length t → every isAllowed (drop i t) ≡ isAllowed (getD t i 0) && every isAllowed (drop (i + 1) t)
   allowed-at h =
-      rw (drop-cons t i 0 h, add-one i) (sym (and-both (isAllowed (getD t i 0)) (every isAllowed (drop (suc i) t))))
+      rw (drop-cons t i 0 h, add-one i) (both-and (isAllowed (getD t i 0)) (every isAllowed (drop (suc i) t)))
 
   -- no byte is left
   pub allowed-past : length t ≤ i → every isAllowed (drop i t) ≡ true

@@ -29,8 +29,9 @@ left :
     (c : tie.Then1 Inv-loop μ-loop)
     → c .before .before .loop .i + 8 ≤ length (c .before .before .before .before .args .text .now)
 left c =
-    let d = drop (c .before .before .loop .i) (c .before .before .before .before .args .text .now) in
-    omega (arith, eight c, blanks-short d, length-drop (c .before .before .loop .i) (c .before .before .before .before .args .text .now))
+    let t = c .before .before .before .before .args .text .now in
+    let i = c .before .before .loop .i in
+    omega (arith, eight c, blanks-short (drop i t), length-drop i t)
 
 add-i : tie.Need-add-i Inv-loop μ-loop
 add-i c = omega (arith, left c)
