@@ -1,6 +1,6 @@
 -- Laws of the integers: sums and products rearranged, sizes bounded, and the machine words that hold them.
 -- Assumes nothing.
-use mathlib.Core.Path.{_≡_, refl, sym, ap, _∙_}
+use mathlib.Core.Path.{_≡_, refl, ap}
 use mathlib.Core.Bool.{Bool, true, false, cond}
 use Prim.Native.Nat.{ℕ, zero, suc, _+_, _-_, _*_, _^_, _≤_, _<_}
 use native.Mathlib.Nat.{le-trans, lt-of-le-of-lt, mul-le-mul}
@@ -19,10 +19,8 @@ use lib.IntN.{
   _-ℤ_,
   _*ℤ_,
   +ℤ-assoc,
-  +ℤ-comm,
   +ℤ-idl,
   +ℤ-idr,
-  +ℤ-invr,
   +ℤ-sucℤ,
   +ℤ-predℤ,
   zero-*ℤ,
@@ -40,21 +38,6 @@ use Rattle.signed.specs.Signed.{withSign}
 -- equal naturals as integers are equal naturals
 pub pos-injective : (m n : ℕ) → pos m ≡ pos n → m ≡ n
 pos-injective m n e = ap natAbs e
-
--- the last two of three summands change places
-pub swap-right : (a b c : ℤ) → a +ℤ b +ℤ c ≡ a +ℤ c +ℤ b
-swap-right a b c = simp (+ℤ-assoc, +ℤ-comm)
-
--- what is added on the right of both sides drops out
-pub shift-cancel : (a b t : ℤ) → a +ℤ t ≡ b +ℤ t → a ≡ b
-shift-cancel a b t e = sym (undo a) ∙ ap (λ (z : ℤ). z +ℤ negℤ t) e ∙ undo b
-  where
-    undo : (z : ℤ) → z +ℤ t +ℤ negℤ t ≡ z
-    undo z = simp (+ℤ-assoc, +ℤ-invr, +ℤ-idr)
-
--- and on the left
-pub cancel-left : (t a b : ℤ) → t +ℤ a ≡ t +ℤ b → a ≡ b
-cancel-left t a b e = shift-cancel a b t (+ℤ-comm a t ∙ e ∙ +ℤ-comm t b)
 
 -- minus a, as a difference
 pub zero-minus : (a : ℤ) → pos 0 -ℤ a ≡ negℤ a
@@ -140,7 +123,15 @@ abs-product a b f g = abs-mul a b 2147483648 2147483648 (abs-word a f) (abs-word
 pub wide : (a : ℤ) → SFits w32 a → SFits w64 a
 wide a f = sfits-widen tt f
 
--- and their sums
+-- also where one is read from the word that holds it,
+pub read-wide : (a : ℤ) → SFits w32 a → SFits w64 (toZ w32 (ofZ w32 a))
+read-wide a f = simp (toZ-ofZ f) (wide a f)
+
+-- and it is the same number there
+pub widened : (a : ℤ) → SFits w32 a → toZ w64 (ofZ w64 (toZ w32 (ofZ w32 a))) ≡ a
+widened a f = simp (toZ-ofZ f, toZ-ofZ (wide a f))
+
+-- they hold the sums
 pub sum-fits : (a b : ℤ) → SFits w32 a → SFits w32 b → SFits w64 (a +ℤ b)
 sum-fits a b f g =
     fits-abs w64 (a +ℤ b) 4294967296 (abs-add a b 2147483648 2147483648 (abs-word a f) (abs-word b g)) (lit< tt)

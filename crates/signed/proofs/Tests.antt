@@ -10,7 +10,7 @@ use mir.Syntax.{Width}
 use mir.Val.{SFits, toZ, ofZ}
 use mir.Facts.{toZ-ofZ}
 use borrow.Author.Tests.{eqb-true, eq-eqb, ne-eqb}
-use Rattle.signed.specs.Signed.{both, eqZ, withSign}
+use Rattle.signed.specs.Signed.{both, eqZ}
 
 -- ---- both
 
@@ -60,11 +60,6 @@ eqZ-words w a b f g = go (eqZ a b) refl
         subst T equal tt)
 
 -- ---- signs
-
--- a number is its sign and its size
-pub sign-size : (a : ℤ) → withSign (ltZ a (pos 0)) (natAbs a) ≡ a
-sign-size (pos a) = simp (leb·suc-zero a)
-sign-size (negsuc a) = refl
 
 -- the opposite of a number below zero is not negative
 pub negative-negℤ : (a : ℤ) → ltZ a (pos 0) ≡ true → T (nonNeg (negℤ a))

@@ -1,9 +1,9 @@
--- Laws of the first stray byte and of the bytes other than spaces, at a place of a text; and of copying them.
+-- Laws of stray bytes and of the bytes other than spaces, at a place of a text; and of copying them.
 -- Assumes nothing.
-use mathlib.Core.Path.{_≡_, sym, ap, _∙_}
-use mathlib.Core.Bool.{Bool, true, false}
+use mathlib.Core.Path.{_≡_, refl, sym, ap, _∙_}
+use mathlib.Core.Bool.{Bool, true, false, _&&_, true≢false}
 use mathlib.Core.List.{List, [], _∷_, _++_, append-nil}
-use mathlib.Core.Option.{none, some}
+use mathlib.Core.Option.{Option, none, some}
 use Prim.Native.Nat.{ℕ, suc, _+_, _≤_, _<_}
 use native.Mathlib.Nat.{le-refl}
 use native.Mathlib.Omega.{arith}
@@ -12,9 +12,45 @@ use lib.Dec.{eqb}
 use lib.ListN.{length, take, drop, getD, set, drop-of-length-le}
 use lib.Seq.{drop-cons, take-suc-set, take-set-le, append-snoc, length-take-le}
 use borrow.Author.Tests.{eq-eqb, ne-eqb}
+use Rattle.aries.specs.Test.{both, every}
 use Rattle.aries.specs.Text.{space, lineFeed, isAllowed, strayLine, withoutSpaces}
-use Rattle.text.specs.Cleaning.{Clean}
+use Rattle.text.specs.Cleaning.{Clean, Copied, orZero}
 use Rattle.text.specs.declared.Cleaned.the-variants.{Stray, Dense}
+use Rattle.text.proofs.Tests.{both-and}
+
+-- ---- whether all bytes are allowed
+
+module _ (t : List ℕ) (i : ℕ) where
+  -- the byte at i, and those after it
+  pub allowed-at :
+      i < length t → every isAllowed (drop i t) ≡ isAllowed (getD t i 0) && every isAllowed (drop (i + 1) t)
+  allowed-at h =
+      rw (drop-cons t i 0 h, add-one i) (both-and (isAllowed (getD t i 0)) (every isAllowed (drop (suc i) t)))
+
+  -- no byte is left
+  pub allowed-past : length t ≤ i → every isAllowed (drop i t) ≡ true
+  allowed-past h = rw (drop-of-length-le t h)
+
+abbrev isNone : Option ℕ → Bool
+isNone none = true
+isNone (some line) = false
+
+-- they are where none is stray
+allowed-stray : (line : ℕ) (t : List ℕ) → every isAllowed t ≡ isNone (strayLine line t)
+unfolding strayLine
+allowed-stray line [] = refl
+allowed-stray line (b ∷ bs) = go (isAllowed b) (eqb b lineFeed) (λ l. allowed-stray l bs)
+  where
+    go :
+        (p q : Bool) → ((l : ℕ) → every isAllowed bs ≡ isNone (strayLine l bs))
+        → both p (every isAllowed bs)
+        ≡ isNone (elim p [
+          | false ↦ some line
+          | true ↦ elim q [ true ↦ strayLine (suc line) bs | false ↦ strayLine line bs ]
+        ])
+    go false q rest = refl
+    go true true rest = rest (suc line)
+    go true false rest = rest line
 
 -- ---- the first stray byte
 
@@ -89,26 +125,40 @@ module _ (t buffer : List ℕ) (i n : ℕ) where
 
   -- at the end of the text all was copied
   pub copied-all :
-      length t ≤ i → take n buffer ++ withoutSpaces (drop i t) ≡ withoutSpaces t → take n buffer ≡ withoutSpaces t
-  copied-all h whole =
+      length t ≤ i → n ≤ length buffer → take n buffer ++ withoutSpaces (drop i t) ≡ withoutSpaces t
+      → Copied t n buffer
+  copied-all h k whole =
+      let d : take n buffer ≡ withoutSpaces t =
       sym (append-nil (take n buffer))
       ∙ ap (λ (rest : List ℕ). take n buffer ++ rest) (sym (dense-past t i h))
-      ∙ whole
+      ∙ whole in
+      let e : n ≡ length (withoutSpaces t) = sym (length-take-le n buffer k) ∙ ap length d in
+      record { counted = e; copied = rw (← e) d }
 
 -- ---- the contract's two cases
 
 -- with a stray byte
-pub stray-cleaned : (t buffer : List ℕ) (line : ℕ) → strayLine 1 t ≡ some line → Clean t (Stray line) buffer
-stray-cleaned t buffer line e =
-    record { answered = rw e; copied = λ f. let z : _≡_ {A = ℕ} 0 1 = cc in absurd (omega arith) }
+pub stray-cleaned :
+    (t buffer : List ℕ) (line : ℕ) → every isAllowed t ≡ false → line ≡ orZero (strayLine 1 t) → Clean t (Stray line) buffer
+stray-cleaned t buffer line f e = go (strayLine 1 t) refl
+  where
+    go : (o : Option ℕ) → strayLine 1 t ≡ o → Clean t (Stray line) buffer
+    go none p = absurd (true≢false (sym (allowed-stray 1 t ∙ ap isNone p) ∙ f))
+    go (some l) p =
+        let z : line ≡ l = e ∙ ap orZero p in
+        record {
+          answered = rw p (ap Stray z);
+          copied = λ q. let z : _≡_ {A = ℕ} 0 1 = cc in absurd (omega arith);
+        }
 
 -- with none
 pub dense-cleaned :
-    (t buffer : List ℕ) (n : ℕ) → strayLine 1 t ≡ none → n ≤ length buffer → take n buffer ≡ withoutSpaces t
-    → Clean t (Dense n) buffer
-dense-cleaned t buffer n e h d =
-    let k : n ≡ length (withoutSpaces t) = sym (length-take-le n buffer h) ∙ ap length d in
-    record { answered = rw e (ap Dense k); copied = λ f. rw (← k) d }
+    (t buffer : List ℕ) (n : ℕ) → every isAllowed t ≡ true → Copied t n buffer → Clean t (Dense n) buffer
+dense-cleaned t buffer n f h = go (strayLine 1 t) refl
+  where
+    go : (o : Option ℕ) → strayLine 1 t ≡ o → Clean t (Dense n) buffer
+    go none p = record { answered = rw p (ap Dense (h .counted)); copied = λ q. h .copied }
+    go (some l) p = absurd (true≢false (sym f ∙ allowed-stray 1 t ∙ ap isNone p))
 
 -- a text is not longer without its spaces
 pub dense-short : (t : List ℕ) → length (withoutSpaces t) ≤ length t

@@ -1,82 +1,126 @@
 -- Laws of lines: how long the line at a place is, the lines from a place on, how many they are, and the empty ones at
 -- the front. Assumes nothing.
 use mathlib.Core.Path.{_≡_, refl, sym, ap, _∙_, subst}
-use mathlib.Core.Bool.{Bool, true, false}
+use mathlib.Core.Bool.{Bool, true, false, not, _&&_}
 use mathlib.Core.List.{List, [], _∷_, _++_}
 use Prim.Native.Nat.{ℕ, zero, suc, _+_, _≤_, _<_}
-use native.Mathlib.Nat.{not-suc-le-zero}
+use native.Mathlib.Nat.{add-zero, not-suc-le-zero}
 use native.Mathlib.Omega.{arith}
 use native.Mathlib.Numerals.{add-one}
-use lib.Dec.{eqb}
-use lib.ListN.{length, take, drop, getD, replicate, drop-of-length-le, length-append, length-drop, length-replicate}
+use lib.Dec.{leb, eqb, leb·zero, leb·suc-zero, leb·suc-suc}
+use lib.ListN.{length, take, drop, getD, replicate, drop-of-length-le, length-drop}
 use lib.Seq.{drop-cons, drop-drop, getD-drop}
-use borrow.Author.Tests.{eq-eqb, ne-eqb, eqb-true, eqb-false}
+use borrow.Author.Tests.{eq-eqb, ne-eqb, eqb-true, eqb-false, le-leb, not-true}
 use Rattle.aries.specs.Text.{lineFeed, lines, intoFirst}
-use Rattle.text.specs.Lines.{lineLength, blanks}
+use Rattle.text.specs.Lines.{countUntil, isFeed, isOther, lineLength, blanks}
 
--- ---- the length of a line, one byte at a time
+-- ---- the bytes before the first that passes a test
+
+module _ (test : ℕ → Bool) where
+  until-here : (b : ℕ) (bs : List ℕ) → test b ≡ true → countUntil test (b ∷ bs) ≡ 0
+  unfolding countUntil
+  until-here b bs e = rw (e, countUntil)
+
+  until-later : (b : ℕ) (bs : List ℕ) → test b ≡ false → countUntil test (b ∷ bs) ≡ suc (countUntil test bs)
+  unfolding countUntil
+  until-later b bs e = rw (e, countUntil)
+
+  -- there are no more than all
+  until-short : (t : List ℕ) → countUntil test t ≤ length t
+  unfolding countUntil
+  until-short [] = omega arith
+  until-short (b ∷ bs) = go (test b) refl (until-short bs)
+    where
+      go :
+          (p : Bool) → test b ≡ p → countUntil test bs ≤ length bs → countUntil test (b ∷ bs) ≤ suc (length bs)
+      go true e h = rw (until-here b bs e) (omega arith)
+      go false e h = rw (until-later b bs e) (omega arith)
+
+  -- without the first n of them so many fewer are left
+  until-drop : (t : List ℕ) (n : ℕ) → n ≤ countUntil test t → countUntil test t ≡ n + countUntil test (drop n t)
+  unfolding countUntil
+  until-drop t zero h = omega arith
+  until-drop [] (suc n) h = absurd (not-suc-le-zero h)
+  until-drop (b ∷ bs) (suc n) h = go (test b) refl (until-drop bs n)
+    where
+      go :
+          (p : Bool) → test b ≡ p → (n ≤ countUntil test bs → countUntil test bs ≡ n + countUntil test (drop n bs))
+          → countUntil test (b ∷ bs) ≡ suc n + countUntil test (drop n bs)
+      go true e rest = absurd (omega (arith, until-here b bs e))
+      go false e rest = rw (until-later b bs e) (omega (arith, rest (omega (arith, until-later b bs e))))
+
+  -- the byte after them passes
+  until-stop : (t : List ℕ) → countUntil test t < length t → test (getD t (countUntil test t) 0) ≡ true
+  unfolding countUntil
+  until-stop [] h = absurd (not-suc-le-zero h)
+  until-stop (b ∷ bs) h = go (test b) refl (until-stop bs)
+    where
+      go :
+          (p : Bool) → test b ≡ p → (countUntil test bs < length bs → test (getD bs (countUntil test bs) 0) ≡ true)
+          → test (getD (b ∷ bs) (countUntil test (b ∷ bs)) 0) ≡ true
+      go true e rest = rw (until-here b bs e) e
+      go false e rest = rw (until-later b bs e) (rest (omega (arith, until-later b bs e)))
+
+  module _ (t : List ℕ) (i : ℕ) where
+    -- the byte at i passes
+    until-ends : i < length t → test (getD t i 0) ≡ true → countUntil test (drop i t) ≡ 0
+    until-ends h e = rw (drop-cons t i 0 h) (until-here (getD t i 0) (drop (suc i) t) e)
+
+    -- it does not: one more than from the next place
+    until-goes-on :
+        i < length t → test (getD t i 0) ≡ false → countUntil test (drop i t) ≡ suc (countUntil test (drop (i + 1) t))
+    until-goes-on h e = rw (add-one i, drop-cons t i 0 h) (until-later (getD t i 0) (drop (suc i) t) e)
+
+    -- no byte at i
+    until-past : length t ≤ i → countUntil test (drop i t) ≡ 0
+    unfolding countUntil
+    until-past h = rw (drop-of-length-le t h)
+
+    -- from a place within the text they end within it
+    until-inside : i ≤ length t → i + countUntil test (drop i t) ≤ length t
+    until-inside h = omega (arith, until-short (drop i t), length-drop i t)
+
+-- ---- a line
 
 length-feed : (b : ℕ) (bs : List ℕ) → eqb b lineFeed ≡ true → lineLength (b ∷ bs) ≡ 0
 unfolding lineLength
-length-feed b bs e = rw (e, lineLength)
+length-feed b bs e = until-here isFeed b bs e
 
 length-other : (b : ℕ) (bs : List ℕ) → eqb b lineFeed ≡ false → lineLength (b ∷ bs) ≡ suc (lineLength bs)
 unfolding lineLength
-length-other b bs e = rw (e, lineLength)
-
-module _ (t : List ℕ) (i : ℕ) where
-  -- a line feed at i: the line there is empty
-  pub line-ends : i < length t → getD t i 0 ≡ lineFeed → lineLength (drop i t) ≡ 0
-  line-ends h e = rw (drop-cons t i 0 h) (length-feed (getD t i 0) (drop (suc i) t) (eq-eqb (getD t i 0) lineFeed e))
-
-  -- another byte at i: the line there is one byte longer than from the next place
-  pub line-goes-on :
-      i < length t → (getD t i 0 ≡ lineFeed → ⊥) → lineLength (drop i t) ≡ suc (lineLength (drop (i + 1) t))
-  line-goes-on h f =
-      rw (add-one i, drop-cons t i 0 h) (length-other (getD t i 0) (drop (suc i) t) (ne-eqb (getD t i 0) lineFeed f))
-
-  -- no byte at i
-  pub line-past : length t ≤ i → lineLength (drop i t) ≡ 0
-  unfolding lineLength
-  line-past h = rw (drop-of-length-le t h)
-
--- ---- a line: its bytes and its end
+length-other b bs e = until-later isFeed b bs e
 
 -- it lies within the text
 pub line-short : (t : List ℕ) → lineLength t ≤ length t
 unfolding lineLength
-line-short [] = omega arith
-line-short (b ∷ bs) = go (eqb b lineFeed) refl (line-short bs)
-  where
-    go : (f : Bool) → eqb b lineFeed ≡ f → lineLength bs ≤ length bs → lineLength (b ∷ bs) ≤ suc (length bs)
-    go true e h = rw (length-feed b bs e) (omega arith)
-    go false e h = rw (length-other b bs e) (omega arith)
+line-short t = until-short isFeed t
 
--- a line has no line feed
-pub no-feed-within : (t : List ℕ) (k : ℕ) → k < lineLength t → getD t k 0 ≡ lineFeed → ⊥
-unfolding lineLength
-no-feed-within [] k h e = not-suc-le-zero h
-no-feed-within (b ∷ bs) k h e = go (eqb b lineFeed) refl k h e (no-feed-within bs)
-  where
-    go :
-        (f : Bool) → eqb b lineFeed ≡ f → (k : ℕ) → k < lineLength (b ∷ bs) → getD (b ∷ bs) k 0 ≡ lineFeed
-        → ((j : ℕ) → j < lineLength bs → getD bs j 0 ≡ lineFeed → ⊥)
-        → ⊥
-    go true e k h p rest = omega (arith, length-feed b bs e)
-    go false e zero h p rest = eqb-false b lineFeed e p
-    go false e (suc k) h p rest = rest k (omega (arith, length-other b bs e)) p
-
--- where a line ends before the text does, a line feed stands
+-- where it ends before the text does, a line feed stands
 pub feed-after : (t : List ℕ) → lineLength t < length t → getD t (lineLength t) 0 ≡ lineFeed
 unfolding lineLength
-feed-after [] h = absurd (not-suc-le-zero h)
-feed-after (b ∷ bs) h = go (eqb b lineFeed) refl (feed-after bs)
-  where
-    go :
-        (f : Bool) → eqb b lineFeed ≡ f → (lineLength bs < length bs → getD bs (lineLength bs) 0 ≡ lineFeed)
-        → getD (b ∷ bs) (lineLength (b ∷ bs)) 0 ≡ lineFeed
-    go true e rest = rw (length-feed b bs e) (eqb-true b lineFeed e)
-    go false e rest = rw (length-other b bs e) (rest (omega (arith, length-other b bs e)))
+feed-after t h = eqb-true (getD t (lineLength t) 0) lineFeed (until-stop isFeed t h)
+
+module _ (t : List ℕ) (i : ℕ) where
+  -- a line feed at i: the line there is empty
+  pub line-ends : i < length t → getD t i 0 ≡ lineFeed → lineLength (drop i t) ≡ 0
+  unfolding lineLength
+  line-ends h e = until-ends isFeed t i h (eq-eqb (getD t i 0) lineFeed e)
+
+  -- another byte at i: the line there is one byte longer than from the next place
+  pub line-goes-on :
+      i < length t → (getD t i 0 ≡ lineFeed → ⊥) → lineLength (drop i t) ≡ suc (lineLength (drop (i + 1) t))
+  unfolding lineLength
+  line-goes-on h f = until-goes-on isFeed t i h (ne-eqb (getD t i 0) lineFeed f)
+
+  -- no byte at i
+  pub line-past : length t ≤ i → lineLength (drop i t) ≡ 0
+  unfolding lineLength
+  line-past h = until-past isFeed t i h
+
+  -- the line from a place within the text ends within it
+  pub line-inside : i ≤ length t → i + lineLength (drop i t) ≤ length t
+  unfolding lineLength
+  line-inside h = until-inside isFeed t i h
 
 -- ---- the lines of a text
 
@@ -159,25 +203,68 @@ count-small (b ∷ bs) = go (eqb b lineFeed) refl (count-small bs)
 
 blanks-feed : (b : ℕ) (bs : List ℕ) → eqb b lineFeed ≡ true → blanks (b ∷ bs) ≡ suc (blanks bs)
 unfolding blanks
-blanks-feed b bs e = rw (e, blanks)
+blanks-feed b bs e = until-later isOther b bs (ap not e)
 
 blanks-other : (b : ℕ) (bs : List ℕ) → eqb b lineFeed ≡ false → blanks (b ∷ bs) ≡ 0
 unfolding blanks
-blanks-other b bs e = rw (e, blanks)
+blanks-other b bs e = until-here isOther b bs (ap not e)
 
 module _ (t : List ℕ) (i : ℕ) where
   -- a line feed at i: one empty line more
   pub blanks-go-on : i < length t → getD t i 0 ≡ lineFeed → blanks (drop i t) ≡ suc (blanks (drop (i + 1) t))
-  blanks-go-on h e =
-      rw (add-one i, drop-cons t i 0 h) (blanks-feed (getD t i 0) (drop (suc i) t) (eq-eqb (getD t i 0) lineFeed e))
+  unfolding blanks
+  blanks-go-on h e = until-goes-on isOther t i h (ap not (eq-eqb (getD t i 0) lineFeed e))
 
   -- another byte at i, or none: no empty line there
   pub blanks-end : i < length t → (getD t i 0 ≡ lineFeed → ⊥) → blanks (drop i t) ≡ 0
-  blanks-end h f = rw (drop-cons t i 0 h) (blanks-other (getD t i 0) (drop (suc i) t) (ne-eqb (getD t i 0) lineFeed f))
+  unfolding blanks
+  blanks-end h f = until-ends isOther t i h (ap not (ne-eqb (getD t i 0) lineFeed f))
 
   pub blanks-past : length t ≤ i → blanks (drop i t) ≡ 0
   unfolding blanks
-  blanks-past h = rw (drop-of-length-le t h)
+  blanks-past h = until-past isOther t i h
+
+  -- those from a place within the text end within it
+  pub blanks-inside : i ≤ length t → i + blanks (drop i t) ≤ length t
+  unfolding blanks
+  blanks-inside h = until-inside isOther t i h
+
+-- they lie within the text
+pub blanks-short : (t : List ℕ) → blanks t ≤ length t
+unfolding blanks
+blanks-short t = until-short isOther t
+
+-- past n of those at i there are so many fewer
+pub blanks-drop : (t : List ℕ) (i n : ℕ) → n ≤ blanks (drop i t) → blanks (drop i t) ≡ n + blanks (drop (i + n) t)
+unfolding blanks
+blanks-drop t i n h = until-drop isOther (drop i t) n h ∙ ap (λ (d : List ℕ). n + blanks d) (drop-drop n i t)
+
+-- the byte behind n of them is a line feed where there are more
+blanks-more : (t : List ℕ) (n : ℕ) → n < length t → leb n (blanks t) && isFeed (getD t n 0) ≡ leb (suc n) (blanks t)
+blanks-more [] n h = absurd (not-suc-le-zero h)
+blanks-more (b ∷ bs) n h = go (eqb b lineFeed) refl n h (blanks-more bs)
+  where
+    go :
+        (p : Bool) → eqb b lineFeed ≡ p → (n : ℕ) → n < suc (length bs)
+        → ((m : ℕ) → m < length bs → leb m (blanks bs) && isFeed (getD bs m 0) ≡ leb (suc m) (blanks bs))
+        → leb n (blanks (b ∷ bs)) && isFeed (getD (b ∷ bs) n 0) ≡ leb (suc n) (blanks (b ∷ bs))
+    go true e zero h rest = simp (blanks-feed b bs e, e, leb·zero) (sym (le-leb 1 (suc (blanks bs)) (omega arith)))
+    go true e (suc n) h rest = simp (blanks-feed b bs e, leb·suc-suc) (rest n (omega arith))
+    go false e zero h rest = simp (blanks-other b bs e, e)
+    go false e (suc n) h rest = simp (blanks-other b bs e, leb·suc-zero)
+
+-- a line feed at i, and at each of the n places after it
+abbrev pub feedsAt : List ℕ → ℕ → ℕ → Bool
+feedsAt t i zero = isFeed (getD t i 0)
+feedsAt t i (suc n) = feedsAt t i n && isFeed (getD t (i + suc n) 0)
+
+-- they are where there are more than n empty lines
+pub feeds-blanks : (t : List ℕ) (i n : ℕ) → i + n < length t → feedsAt t i n ≡ leb (suc n) (blanks (drop i t))
+feeds-blanks t i zero h =
+    simp (leb·zero, getD-drop, add-zero) at (blanks-more (drop i t) 0 (simp length-drop (omega arith)))
+feeds-blanks t i (suc n) h =
+    ap (λ (p : Bool). p && isFeed (getD t (i + suc n) 0)) (feeds-blanks t i n (omega arith))
+    ∙ simp getD-drop at (blanks-more (drop i t) (suc n) (simp length-drop (omega arith)))
 
 -- the lines of a body: so many empty ones, and those from its first block on
 pub lines-blanks : (t : List ℕ) → lines t ≡ replicate (blanks t) [] ++ lines (drop (blanks t) t)
@@ -191,29 +278,12 @@ lines-blanks (b ∷ bs) = go (eqb b lineFeed) refl (lines-blanks bs)
     go true e rest = rw (lines-feed b bs e, blanks-feed b bs e) (ap (λ (ls : List (List ℕ)). [] ∷ ls) rest)
     go false e rest = rw (blanks-other b bs e)
 
--- and so they are counted
-pub count-blanks : (t : List ℕ) → length (lines t) ≡ blanks t + length (lines (drop (blanks t) t))
-count-blanks t =
-    let ls : List (List ℕ) = lines (drop (blanks t) t) in
-    ap length (lines-blanks t)
-    ∙ length-append (replicate (blanks t) []) ls
-    ∙ ap (λ (n : ℕ). n + length ls) (length-replicate (blanks t) [])
-
--- the first line after the empty ones, if there is one, is not empty
-pub blanks-stop : (t : List ℕ) → blanks t < length t → getD t (blanks t) 0 ≡ lineFeed → ⊥
-unfolding blanks
-blanks-stop [] h p = not-suc-le-zero h
-blanks-stop (b ∷ bs) h p = go (eqb b lineFeed) refl (blanks-stop bs) h p
-  where
-    go :
-        (f : Bool) → eqb b lineFeed ≡ f → (blanks bs < length bs → getD bs (blanks bs) 0 ≡ lineFeed → ⊥)
-        → blanks (b ∷ bs) < suc (length bs) → getD (b ∷ bs) (blanks (b ∷ bs)) 0 ≡ lineFeed → ⊥
-    go true e rest h p = rest (omega (arith, blanks-feed b bs e)) (rw (blanks-feed b bs e) at p)
-    go false e rest h p = eqb-false b lineFeed e (rw (blanks-other b bs e) at p)
-
 -- where the next block starts there is no line feed
 pub next-stop :
     (t : List ℕ) (from next : ℕ) → next ≡ from + blanks (drop from t) → next < length t → getD t next 0 ≡ lineFeed → ⊥
+unfolding blanks
 next-stop t from next e h f =
-    let k : blanks (drop from t) < length (drop from t) = simp length-drop (omega arith) in
-    blanks-stop (drop from t) k (getD-drop from t (blanks (drop from t)) 0 ∙ ap (λ (n : ℕ). getD t n 0) (sym e) ∙ f)
+    let d : List ℕ = drop from t in
+    let k : blanks d < length d = simp length-drop (omega arith) in
+    eqb-false (getD d (blanks d) 0) lineFeed (not-true (isFeed (getD d (blanks d) 0)) (until-stop isOther d k))
+    (getD-drop from t (blanks d) 0 ∙ ap (λ (n : ℕ). getD t n 0) (sym e) ∙ f)

@@ -13,6 +13,16 @@ abbrev pub cleaned : Option ℕ → List ℕ → Cleaned
 cleaned (some line) dense = Stray line
 cleaned none dense = Dense (length dense)
 
+-- the line of the first stray byte, 0 where there is none
+abbrev pub orZero : Option ℕ → ℕ
+orZero (some line) = line
+orZero none = 0
+
+-- A text, how many bytes were copied, and the buffer at exit. What it holds past the copy is free.
+pub record Copied (text : List ℕ) (count : ℕ) (buffer : List ℕ) : Type 0 where
+  pub counted : count ≡ length (withoutSpaces text)
+  pub copied : take (length (withoutSpaces text)) buffer ≡ withoutSpaces text
+
 -- A text, the answer, and the buffer at exit. What the buffer holds past the copy is free, and all of it where a byte
 -- is stray.
 pub record Clean (text : List ℕ) (answer : Cleaned) (buffer : List ℕ) : Type 0 where

@@ -1,16 +1,27 @@
 -- How far a line goes, and how many empty lines stand at the front.
-use mathlib.Core.Bool.{true, false}
+use mathlib.Core.Bool.{Bool, true, false, not}
 use mathlib.Core.List.{List, [], _∷_}
 use Prim.Native.Nat.{ℕ, suc}
 use lib.Dec.{eqb}
 use Rattle.aries.specs.Text.{lineFeed}
 
+-- how many bytes stand before the first that passes a test
+unfoldable pub countUntil : (ℕ → Bool) → List ℕ → ℕ
+countUntil test [] = 0
+countUntil test (b ∷ bs) = elim (test b) [ true ↦ 0 | false ↦ suc (countUntil test bs) ]
+
+abbrev pub isFeed : ℕ → Bool
+isFeed b = eqb b lineFeed
+
+abbrev pub isOther : ℕ → Bool
+isOther b = not (isFeed b)
+
 -- the bytes before the first line feed
 unfoldable pub lineLength : List ℕ → ℕ
-lineLength [] = 0
-lineLength (b ∷ bs) = elim (eqb b lineFeed) [ true ↦ 0 | false ↦ suc (lineLength bs) ]
+unfolding countUntil
+lineLength t = countUntil isFeed t
 
 -- the line feeds before the first other byte
 unfoldable pub blanks : List ℕ → ℕ
-blanks [] = 0
-blanks (b ∷ bs) = elim (eqb b lineFeed) [ true ↦ suc (blanks bs) | false ↦ 0 ]
+unfolding countUntil
+blanks t = countUntil isOther t

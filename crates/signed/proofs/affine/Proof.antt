@@ -7,17 +7,11 @@ use lib.IntN.{pos, _+ℤ_, _*ℤ_}
 use mir.Syntax.{w32, w64}
 use mir.Val.{SFits}
 use mir.Facts.{toZ-ofZ, toZ-pos}
-use Rattle.signed.proofs.Integers.{wide, abs-word, abs-add, abs-product, product-fits, count-fits, fits-abs}
+use Rattle.signed.proofs.Integers.{read-wide, widened, abs-word, abs-add, abs-product, product-fits, count-fits, fits-abs}
 use Rattle.signed.proofs.affine.Statement.{statement}
 use Rattle.signed.proofs.affine.Tie as tie
 
 module _ (c : tie.Start) where
-  a-wide : SFits w64 (c .args .a)
-  a-wide = wide (c .args .a) (c .fits .a)
-
-  b-wide : SFits w64 (c .args .b)
-  b-wide = wide (c .args .b) (c .fits .b)
-
   n-small : c .args .n < 2 ^ 63
   n-small = omega arith
 
@@ -35,24 +29,22 @@ module _ (c : tie.Start) where
       (lit< tt)
 
 cast-result : tie.Need-cast-result
-cast-result c = simp (toZ-ofZ (c .fits .a)) (a-wide c)
+cast-result c = read-wide (c .args .a) (c .fits .a)
 
 cast-result-2 : tie.Need-cast-result-2
 cast-result-2 c = search needs
 
 cast-result-3 : tie.Need-cast-result-3
-cast-result-3 c = simp (toZ-ofZ (c .fits .b)) (b-wide c)
+cast-result-3 c = read-wide (c .args .b) (c .fits .b)
 
 mul-result : tie.Need-mul-result
-mul-result c = simp (toZ-ofZ (c .fits .b), toZ-ofZ (b-wide c), toZ-pos w64 (n-small c)) (product-in c)
+mul-result c = simp (widened (c .args .b) (c .fits .b), toZ-pos w64 (n-small c)) (product-in c)
 
 add-result : tie.Need-add-result
 add-result c =
     simp (
-      toZ-ofZ (c .fits .a),
-      toZ-ofZ (c .fits .b),
-      toZ-ofZ (a-wide c),
-      toZ-ofZ (b-wide c),
+      widened (c .args .a) (c .fits .a),
+      widened (c .args .b) (c .fits .b),
       toZ-pos w64 (n-small c),
       toZ-ofZ (product-in c),
     )
@@ -61,10 +53,8 @@ add-result c =
 returns : tie.Need-returns
 returns c =
     simp (
-      toZ-ofZ (c .fits .a),
-      toZ-ofZ (c .fits .b),
-      toZ-ofZ (a-wide c),
-      toZ-ofZ (b-wide c),
+      widened (c .args .a) (c .fits .a),
+      widened (c .args .b) (c .fits .b),
       toZ-pos w64 (n-small c),
       toZ-ofZ (product-in c),
       toZ-ofZ (sum-in c),

@@ -3,7 +3,7 @@ use mathlib.Core.Path.{_≡_}
 use mathlib.Core.Bool.{true, false}
 use lib.Signed.{leZ}
 use mir.Facts.{toZ-ofZ}
-use Rattle.signed.proofs.Integers.{wide}
+use Rattle.signed.proofs.Integers.{read-wide, widened}
 use Rattle.signed.proofs.between.Statement.{statement}
 use Rattle.signed.proofs.between.Tie as tie
 
@@ -11,31 +11,28 @@ use Rattle.signed.proofs.between.Tie as tie
 above : (c : tie.Then1) → leZ (c .before .args .low) (c .before .args .a) ≡ true
 above c =
     simp (
-      toZ-ofZ (c .before .fits .low),
-      toZ-ofZ (wide (c .before .args .low) (c .before .fits .low)),
+      widened (c .before .args .low) (c .before .fits .low),
       toZ-ofZ (c .before .fits .a),
     ) at (c .if1 .taken)
 
 below : (c : tie.Else1) → leZ (c .before .args .low) (c .before .args .a) ≡ false
 below c =
     simp (
-      toZ-ofZ (c .before .fits .low),
-      toZ-ofZ (wide (c .before .args .low) (c .before .fits .low)),
+      widened (c .before .args .low) (c .before .fits .low),
       toZ-ofZ (c .before .fits .a),
     ) at (c .if1 .left)
 
 cast-if1 : tie.Need-cast-if1
-cast-if1 c = simp (toZ-ofZ (c .fits .low)) (wide (c .args .low) (c .fits .low))
+cast-if1 c = read-wide (c .args .low) (c .fits .low)
 
 cast-result : tie.Need-cast-result
-cast-result c = simp (toZ-ofZ (c .before .fits .high)) (wide (c .before .args .high) (c .before .fits .high))
+cast-result c = read-wide (c .before .args .high) (c .before .fits .high)
 
 returns : tie.Need-returns
 returns c =
     simp (
       toZ-ofZ (c .before .fits .a),
-      toZ-ofZ (c .before .fits .high),
-      toZ-ofZ (wide (c .before .args .high) (c .before .fits .high)),
+      widened (c .before .args .high) (c .before .fits .high),
       above c,
     )
 

@@ -6,14 +6,11 @@ use lib.IntN.{pos, _*ℤ_}
 use mir.Syntax.{w64}
 use mir.Val.{SFits}
 use mir.Facts.{toZ-ofZ, toZ-pos}
-use Rattle.signed.proofs.Integers.{wide, product-fits, count-fits}
+use Rattle.signed.proofs.Integers.{read-wide, widened, product-fits, count-fits}
 use Rattle.signed.proofs.product.Statement.{statement}
 use Rattle.signed.proofs.product.Tie as tie
 
 module _ (c : tie.Start) where
-  a-wide : SFits w64 (c .args .a)
-  a-wide = wide (c .args .a) (c .fits .a)
-
   n-small : c .args .n < 2 ^ 63
   n-small = omega arith
 
@@ -24,13 +21,13 @@ cast-result : tie.Need-cast-result
 cast-result c = search needs
 
 cast-result-2 : tie.Need-cast-result-2
-cast-result-2 c = simp (toZ-ofZ (c .fits .a)) (a-wide c)
+cast-result-2 c = read-wide (c .args .a) (c .fits .a)
 
 mul-result : tie.Need-mul-result
-mul-result c = simp (toZ-ofZ (c .fits .a), toZ-ofZ (a-wide c), toZ-pos w64 (n-small c)) (fits c)
+mul-result c = simp (widened (c .args .a) (c .fits .a), toZ-pos w64 (n-small c)) (fits c)
 
 returns : tie.Need-returns
-returns c = simp (toZ-ofZ (c .fits .a), toZ-ofZ (a-wide c), toZ-pos w64 (n-small c), toZ-ofZ (fits c))
+returns c = simp (widened (c .args .a) (c .fits .a), toZ-pos w64 (n-small c), toZ-ofZ (fits c))
 
 pub product-spec : {M : Type 1} → statement M
 product-spec = tie.close (tie.spec cast-result cast-result-2 mul-result returns)

@@ -7,14 +7,11 @@ use lib.IntN.{pos, _+ℤ_}
 use mir.Syntax.{w64}
 use mir.Val.{SFits}
 use mir.Facts.{toZ-ofZ, toZ-pos}
-use Rattle.signed.proofs.Integers.{wide, abs-word, abs-add, fits-abs}
+use Rattle.signed.proofs.Integers.{read-wide, widened, abs-word, abs-add, fits-abs}
 use Rattle.signed.proofs.scaled.Statement.{statement}
 use Rattle.signed.proofs.scaled.Tie as tie
 
 module _ (c : tie.Start) where
-  a-wide : SFits w64 (c .args .a)
-  a-wide = wide (c .args .a) (c .fits .a)
-
   product-bound : c .args .n * c .args .p ≤ 281470681677825
   product-bound =
       let n-small : c .args .n ≤ 65535 = omega arith in
@@ -31,7 +28,7 @@ module _ (c : tie.Start) where
       (lit< tt)
 
 cast-result : tie.Need-cast-result
-cast-result c = simp (toZ-ofZ (c .fits .a)) (a-wide c)
+cast-result c = read-wide (c .args .a) (c .fits .a)
 
 mul-result : tie.Need-mul-result
 mul-result c = omega (arith, product-bound c)
@@ -40,10 +37,10 @@ cast-result-2 : tie.Need-cast-result-2
 cast-result-2 c = record { sfits = product-small c }
 
 add-result : tie.Need-add-result
-add-result c = simp (toZ-ofZ (c .fits .a), toZ-ofZ (a-wide c), toZ-pos w64 (product-small c)) (fits c)
+add-result c = simp (widened (c .args .a) (c .fits .a), toZ-pos w64 (product-small c)) (fits c)
 
 returns : tie.Need-returns
-returns c = simp (toZ-ofZ (c .fits .a), toZ-ofZ (a-wide c), toZ-pos w64 (product-small c), toZ-ofZ (fits c))
+returns c = simp (widened (c .args .a) (c .fits .a), toZ-pos w64 (product-small c), toZ-ofZ (fits c))
 
 pub scaled-spec : {M : Type 1} → statement M
 scaled-spec = tie.close (tie.spec cast-result mul-result cast-result-2 add-result returns)

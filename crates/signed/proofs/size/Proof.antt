@@ -8,18 +8,14 @@ use lib.Signed.{ltZ}
 use mir.Syntax.{w64}
 use mir.Val.{SFits}
 use mir.Facts.{toZ-ofZ, fits-natAbs}
-use Rattle.signed.proofs.Integers.{wide, abs-word, fits-abs, abs-neg, zero-minus}
+use Rattle.signed.proofs.Integers.{read-wide, widened, abs-word, fits-abs, abs-neg, zero-minus}
 use Rattle.signed.proofs.Tests.{negative-negℤ, not-negative}
 use Rattle.signed.proofs.size.Statement.{statement}
 use Rattle.signed.proofs.size.Tie as tie
 
-module _ (c : tie.Start) where
-  a-wide : SFits w64 (c .args .a)
-  a-wide = wide (c .args .a) (c .fits .a)
-
-  opposite : SFits w64 (negℤ (c .args .a))
-  opposite =
-      fits-abs w64 (negℤ (c .args .a)) 2147483648 (rw (abs-neg (c .args .a)) (abs-word (c .args .a) (c .fits .a))) (lit< tt)
+opposite : (c : tie.Start) → SFits w64 (negℤ (c .args .a))
+opposite c =
+    fits-abs w64 (negℤ (c .args .a)) 2147483648 (rw (abs-neg (c .args .a)) (abs-word (c .args .a) (c .fits .a))) (lit< tt)
 
 -- the test, of the number itself
 negative : (c : tie.Then1) → ltZ (c .before .args .a) (pos 0) ≡ true
@@ -29,15 +25,15 @@ otherwise : (c : tie.Else1) → ltZ (c .before .args .a) (pos 0) ≡ false
 otherwise c = simp (toZ-ofZ (c .before .fits .a)) at (c .if1 .left)
 
 cast-result : tie.Need-cast-result
-cast-result c = simp (toZ-ofZ (c .before .fits .a)) (a-wide (c .before))
+cast-result c = read-wide (c .before .args .a) (c .before .fits .a)
 
 sub-result : tie.Need-sub-result
 sub-result c =
-    simp (toZ-ofZ (c .before .fits .a), toZ-ofZ (a-wide (c .before)), zero-minus) (opposite (c .before))
+    simp (widened (c .before .args .a) (c .before .fits .a), zero-minus) (opposite (c .before))
 
 cast-result-2 : tie.Need-cast-result-2
 cast-result-2 c =
-    simp (toZ-ofZ (c .before .fits .a), toZ-ofZ (a-wide (c .before)), zero-minus, toZ-ofZ (opposite (c .before)), abs-neg)
+    simp (widened (c .before .args .a) (c .before .fits .a), zero-minus, toZ-ofZ (opposite (c .before)), abs-neg)
     (negative-negℤ (c .before .args .a) (negative c), fits-natAbs tt (c .before .fits .a))
 
 cast-result-3 : tie.Need-cast-result-3
@@ -47,7 +43,7 @@ cast-result-3 c =
 
 returns : tie.Need-returns
 returns c =
-    simp (toZ-ofZ (c .before .fits .a), toZ-ofZ (a-wide (c .before)), zero-minus, toZ-ofZ (opposite (c .before)), abs-neg)
+    simp (widened (c .before .args .a) (c .before .fits .a), zero-minus, toZ-ofZ (opposite (c .before)), abs-neg)
 
 returns-2 : tie.Need-returns-2
 returns-2 c = search needs

@@ -3,32 +3,25 @@ use lib.IntN.{_+ℤ_}
 use mir.Syntax.{w64}
 use mir.Val.{SFits}
 use mir.Facts.{toZ-ofZ}
-use Rattle.signed.proofs.Integers.{wide, sum-fits}
+use Rattle.signed.proofs.Integers.{read-wide, widened, sum-fits}
 use Rattle.signed.proofs.sum.Statement.{statement}
 use Rattle.signed.proofs.sum.Tie as tie
 
-module _ (c : tie.Start) where
-  a-wide : SFits w64 (c .args .a)
-  a-wide = wide (c .args .a) (c .fits .a)
-
-  b-wide : SFits w64 (c .args .b)
-  b-wide = wide (c .args .b) (c .fits .b)
-
-  fits : SFits w64 (c .args .a +ℤ c .args .b)
-  fits = sum-fits (c .args .a) (c .args .b) (c .fits .a) (c .fits .b)
+fits : (c : tie.Start) → SFits w64 (c .args .a +ℤ c .args .b)
+fits c = sum-fits (c .args .a) (c .args .b) (c .fits .a) (c .fits .b)
 
 cast-result : tie.Need-cast-result
-cast-result c = simp (toZ-ofZ (c .fits .a)) (a-wide c)
+cast-result c = read-wide (c .args .a) (c .fits .a)
 
 cast-result-2 : tie.Need-cast-result-2
-cast-result-2 c = simp (toZ-ofZ (c .fits .b)) (b-wide c)
+cast-result-2 c = read-wide (c .args .b) (c .fits .b)
 
 add-result : tie.Need-add-result
-add-result c = simp (toZ-ofZ (c .fits .a), toZ-ofZ (c .fits .b), toZ-ofZ (a-wide c), toZ-ofZ (b-wide c)) (fits c)
+add-result c = simp (widened (c .args .a) (c .fits .a), widened (c .args .b) (c .fits .b)) (fits c)
 
 returns : tie.Need-returns
 returns c =
-    simp (toZ-ofZ (c .fits .a), toZ-ofZ (c .fits .b), toZ-ofZ (a-wide c), toZ-ofZ (b-wide c), toZ-ofZ (fits c))
+    simp (widened (c .args .a) (c .fits .a), widened (c .args .b) (c .fits .b), toZ-ofZ (fits c))
 
 pub sum-spec : {M : Type 1} → statement M
 sum-spec = tie.close (tie.spec cast-result cast-result-2 add-result returns)

@@ -5,7 +5,7 @@ use native.Mathlib.Omega.{arith}
 use lib.ListN.{length, drop}
 use borrow.Author.Needs.{needs}
 use Rattle.aries.specs.Text.{lines}
-use Rattle.text.proofs.Lines.{count-at, count-past, count-small}
+use Rattle.text.proofs.Lines.{line-inside, count-at, count-past, count-small}
 use Rattle.text.proofs.count_lines.Statement.{statement}
 use Rattle.text.proofs.count_lines.Tie as tie
 
@@ -26,8 +26,16 @@ counted :
 counted c =
     let t = c .before .before .before .before .args .text .now in
     let h = count-at t (c .before .before .loop .at) (c .before .loop-test .taken) in
-    let e = ap (λ (n : ℕ). length (lines (drop (n + 1) t))) (c .line-end .ensures .0) in
+    let e = ap (λ (n : ℕ). length (lines (drop (n + 1) t))) (c .line-end .ensures) in
     omega arith
+
+-- the line ends within the text
+inside :
+    (c : tie.After-line-end Inv-loop μ-loop)
+    → c .line-end .result ≤ length (c .before .before .before .before .args .text .now)
+inside c =
+    let t = c .before .before .before .before .args .text .now in
+    omega (arith, c .line-end .ensures, line-inside t (c .before .before .loop .at) (omega arith))
 
 add-count : tie.Need-add-count Inv-loop μ-loop
 add-count c =
@@ -35,7 +43,7 @@ add-count c =
     omega (arith, counted c, count-small t, c .before .before .loop .inv .1, c .before .before .before .before .good .0)
 
 loop-again : tie.Need-loop-again Inv-loop μ-loop
-loop-again c = (omega arith, omega (arith, counted c, c .before .before .loop .inv .1))
+loop-again c = (omega (arith, inside c), omega (arith, counted c, c .before .before .loop .inv .1))
 
 returns : tie.Need-returns Inv-loop μ-loop
 returns c =
@@ -49,8 +57,9 @@ count-lines-spec =
     Inv-loop
     μ-loop
     loop-holds
-    (λ c κs. search needs) (λ c. search needs)
+    (λ c κs. search needs)
+    (λ c. omega (arith, inside c))
     add-count
-    (λ c. search needs)
+    (λ c. omega (arith, inside c))
     loop-again
     returns)

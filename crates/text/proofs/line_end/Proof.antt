@@ -1,6 +1,6 @@
 -- The invariant: the line has the same end from here as from the start. Assumes nothing.
 use mathlib.Core.Path.{_≡_}
-use Prim.Native.Nat.{_+_, _-_, _≤_}
+use Prim.Native.Nat.{_+_, _-_}
 use native.Mathlib.Omega.{arith}
 use lib.ListN.{length, drop}
 use Rattle.text.specs.Lines.{lineLength}
@@ -9,7 +9,7 @@ use Rattle.text.proofs.line_end.Statement.{statement}
 use Rattle.text.proofs.line_end.Tie as tie
 
 abbrev Inv-loop : tie.InvT-loop
-Inv-loop text from i₀ i = (i ≤ length text) × (i + lineLength (drop i text) ≡ from + lineLength (drop from text))
+Inv-loop text from i₀ i = i + lineLength (drop i text) ≡ from + lineLength (drop from text)
 
 abbrev μ-loop : tie.MeasureT-loop
 μ-loop text from i₀ i = length text - i

@@ -1,15 +1,16 @@
 -- The invariant: the next block lies where it lay from the start. Assumes nothing.
 use mathlib.Core.Path.{_≡_}
-use Prim.Native.Nat.{_+_, _-_, _≤_}
+use Prim.Native.Nat.{_+_, _-_}
 use native.Mathlib.Omega.{arith}
 use lib.ListN.{length, drop}
+use borrow.Author.Needs.{needs}
 use Rattle.text.specs.Lines.{blanks}
 use Rattle.text.proofs.Lines.{blanks-go-on, blanks-end, blanks-past}
 use Rattle.text.proofs.next_block.Statement.{statement}
 use Rattle.text.proofs.next_block.Tie as tie
 
 abbrev Inv-loop : tie.InvT-loop
-Inv-loop text from i₀ i = (i ≤ length text) × (i + blanks (drop i text) ≡ from + blanks (drop from text))
+Inv-loop text from i₀ i = i + blanks (drop i text) ≡ from + blanks (drop from text)
 
 abbrev μ-loop : tie.MeasureT-loop
 μ-loop text from i₀ i = length text - i
@@ -17,15 +18,15 @@ abbrev μ-loop : tie.MeasureT-loop
 returns : tie.Need-returns Inv-loop μ-loop
 returns c =
     let p = c .before .before .before in
-    omega (arith, blanks-end (p .before .args .text .now) (p .loop .i) (c .before .before .loop-test .taken) (c .if1 .taken))
+    omega (arith, blanks-end (p .before .before .before .args .text .now) (p .loop .i) (c .before .before .loop-test .taken) (c .if1 .taken))
 
 loop-again : tie.Need-loop-again Inv-loop μ-loop
 loop-again c =
     let p = c .before .before .before in
-    omega (arith, blanks-go-on (p .before .args .text .now) (p .loop .i) (c .before .before .loop-test .taken) (c .if1 .left))
+    omega (arith, blanks-go-on (p .before .before .before .args .text .now) (p .loop .i) (c .before .before .loop-test .taken) (c .if1 .left))
 
 returns-2 : tie.Need-returns-2 Inv-loop μ-loop
-returns-2 c = omega (arith, blanks-past (c .before .before .args .text .now) (c .before .loop .i) (c .loop-test .left))
+returns-2 c = omega (arith, blanks-past (c .before .before .before .before .args .text .now) (c .before .loop .i) (c .loop-test .left))
 
 pub next-block-spec : {M : Type 1} → statement M
 next-block-spec =
@@ -33,7 +34,7 @@ next-block-spec =
     (tie.spec
     Inv-loop
     μ-loop
-    (λ c. omega arith) (λ c. omega arith)
+    (λ c κs. search needs) (λ c. omega arith) (λ c. omega arith)
     returns
     (λ c. omega arith) (λ c. omega arith)
     loop-again
