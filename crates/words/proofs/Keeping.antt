@@ -3,16 +3,19 @@
 use mathlib.Core.Path.{_≡_, refl, sym, ap, _∙_}
 use mathlib.Core.Bool.{Bool, true, false}
 use mathlib.Core.List.{List, [], _∷_}
-use Prim.Native.Nat.{ℕ, zero, suc, _<_}
+use Prim.Native.Nat.{ℕ, zero, suc, _≤_, _<_}
 use native.Mathlib.Nat.{not-suc-le-zero}
 use native.Mathlib.Omega.{arith}
+use lib.Dec.{ltb}
 use lib.IntN.{ℤ, pos}
 use lib.ListN.{length, getD, set, drop, replicate}
+use borrow.Author.Tests.{le-ltb, le-leb}
 use Rattle.aries.specs.declared.word.Word.{Word}
-use Rattle.aries.specs.Words.{noWord}
+use Rattle.aries.specs.Words.{noWord, isPlain}
 use Rattle.aries.specs.declared.word.Words.{Words}
+use Rattle.words.proofs.Tests.{both-false}
 use Rattle.words.specs.declared.Tally.{Tally}
-use Rattle.words.specs.Keeping.{wordIn, formIn, firstWords, lettersOf, wordsFrom, retold}
+use Rattle.words.specs.Keeping.{wordIn, formOf, firstWords, lettersOf, wordsFrom, retold}
 
 -- ---- one word
 
@@ -20,18 +23,33 @@ abbrev written : Bool → Bool → Bool → ℤ → Word
 written w signed pointed value = record { written = w; signed = signed; pointed = pointed; value = value }
 
 by-marks :
-    (signed pointed : Bool) (value : ℤ)
-    → wordIn (formIn (written true signed pointed value)) value ≡ written true signed pointed value
+    (signed pointed : Bool) (value : ℤ) → wordIn (formOf signed pointed) value ≡ written true signed pointed value
 by-marks true true value = refl
 by-marks true false value = refl
 by-marks false true value = refl
 by-marks false false value = refl
 
 -- a word that is written is what its form and its number stand for
-pub form-word : (v : Word) → v .written ≡ true → wordIn (formIn v) (v .value) ≡ v
+pub form-word : (v : Word) → v .written ≡ true → wordIn (formOf (v .signed) (v .pointed)) (v .value) ≡ v
 form-word v e =
     by-marks (v .signed) (v .pointed) (v .value)
     ∙ ap (λ (w : Bool). written w (v .signed) (v .pointed) (v .value)) (sym e)
+
+-- its form is not 0
+pub form-positive : (signed pointed : Bool) → 0 < formOf signed pointed
+form-positive true true = omega arith
+form-positive true false = omega arith
+form-positive false true = omega arith
+form-positive false false = omega arith
+
+-- it has neither sign nor point where its form is below 2
+pub form-plain : (form : ℕ) (number : ℤ) → ltb form 2 ≡ isPlain (wordIn form number)
+form-plain zero number = refl
+form-plain (suc zero) number = refl
+form-plain (suc (suc zero)) number = refl
+form-plain (suc (suc (suc n))) number =
+    let h : 3 ≤ suc (suc (suc n)) = omega arith in
+    le-ltb (suc (suc (suc n))) 2 (omega arith) ∙ sym (simp (le-leb 3 (suc (suc (suc n))) h, both-false))
 
 -- ---- the words of two lists
 

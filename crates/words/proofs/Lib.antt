@@ -4,4 +4,5 @@ pub mod Numerals
 pub mod Word
 pub mod Added
 pub mod Keeping
+pub mod Line
 pub mod Gathering

@@ -26,7 +26,7 @@ unfolding digits
 digits-full n value count bs e = rw e
 
 -- at a byte that is no digit
-digits-cons-stop :
+pub digits-cons-stop :
     (n value count b : ℕ) (bs : List ℕ) → isDigit b ≡ false
     → digits n value count (b ∷ bs) ≡ record { value = value; count = count }
 unfolding digits
@@ -34,7 +34,7 @@ digits-cons-stop zero value count b bs e = refl
 digits-cons-stop (suc n) value count b bs e = rw (e, digits)
 
 -- at a digit
-digits-cons-more :
+pub digits-cons-more :
     (n value count b : ℕ) (bs : List ℕ) → isDigit b ≡ true
     → digits (suc n) value count (b ∷ bs) ≡ digits n (value * 10 + (b - 48)) (suc count) bs
 unfolding digits

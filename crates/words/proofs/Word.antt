@@ -12,8 +12,6 @@ use lib.IntN.{natAbs}
 use lib.ListN.{length, getD, drop, length-drop}
 use lib.Seq.{getD-drop, drop-drop}
 use borrow.Author.Tests.{ne-eqb, le-leb, lt-leb, leb-true, eqb-true}
-use Rattle.aries.specs.declared.word.Word as written
-use Rattle.aries.specs.declared.word.Reading.the-variants.{Word, Malformed}
 use Rattle.aries.specs.Test.{both, pick}
 use Rattle.aries.specs.Text.{isCapital}
 use Rattle.aries.specs.Words.{Digits, Read, digits, isSign, minus, point, hundredths, wordOf, word}
@@ -22,11 +20,14 @@ use Rattle.signed.proofs.Tests.{both-left, both-right}
 use Rattle.words.proofs.Tests.{both-false}
 use Rattle.words.proofs.Bytes.{byte-inside, capital-inside, front-inside, from-inside}
 use Rattle.words.proofs.Numerals.{Bounded, digits-bounded, Few, held-few, below-power, hundredths-small}
-use Rattle.words.specs.Reading.{Held, held, meant, readingAt}
+use Rattle.words.proofs.Keeping.{form-word, form-positive}
+use Rattle.words.specs.declared.Reading.{Reading}
+use Rattle.words.specs.Keeping.{wordIn}
+use Rattle.words.specs.Reading.{Held, held, meant, readingAt, readingOf}
 
 -- a word from its parts: the letter, the byte where a sign is due, how many bytes these take, the digits, the byte
 -- after them, and the digits after that
-abbrev parsed : ℕ → ℕ → ℕ → Digits → ℕ → Digits → Option Read
+abbrev pub parsed : ℕ → ℕ → ℕ → Digits → ℕ → Digits → Option Read
 parsed letter sign front whole stop decimals =
     pick (both (isCapital letter) (leb 1 (whole .count)))
     (pick (eqb stop point)
@@ -84,7 +85,7 @@ module _ (bytes : List ℕ) (at : ℕ) (p : Parts bytes at) where
       (digits 2 0 0 (drop (end + 1) bytes))) (sym (p .letter-is)) (sym (p .sign-is))
 
   -- no digits, no word
-  pub no-digits : p .whole .count ≡ 0 → readingAt at (word (drop at bytes)) ≡ Malformed
+  pub no-digits : p .whole .count ≡ 0 → readingAt at (word (drop at bytes)) ≡ readingAt at none
   no-digits e = rw (word-at) (simp (lt-leb 1 (p .whole .count) (omega arith), both-false))
 
   module _ (c : isCapital (p .letter) ≡ true) where
@@ -100,21 +101,21 @@ module _ (bytes : List ℕ) (at : ℕ) (p : Parts bytes at) where
       pub no-point :
           (getD bytes end 0 ≡ point → ⊥)
           → readingAt at (word (drop at bytes))
-          ≡ Word (p .letter) (wordOf (isSign (p .sign)) (eqb (p .sign) minus) false (p .whole .value)) end
+          ≡ readingOf (p .letter) (p .sign) false (p .whole .value) end
       no-point n =
           rw (word-at) (simp (c, le-leb 1 (p .whole .count) d, ne-eqb (getD bytes end 0) point n) (simp add-assoc))
 
       module _ (q : getD bytes end 0 ≡ point) where
         -- a point follows too many digits
-        pub too-long : 4 < p .whole .count → readingAt at (word (drop at bytes)) ≡ Malformed
+        pub too-long : 4 < p .whole .count → readingAt at (word (drop at bytes)) ≡ readingAt at none
         too-long h = rw (word-at) (simp (c, le-leb 1 (p .whole .count) d, q, lt-leb (p .whole .count) 4 h))
 
         -- a point follows, and then the decimals
         pub with-point :
             (decimals : Held) → p .whole .count ≤ 4 → decimals ≡ held (digits 2 0 0 (drop (end + 1) bytes))
             → readingAt at (word (drop at bytes))
-            ≡ Word (p .letter) (wordOf (isSign (p .sign)) (eqb (p .sign) minus) true
-            (p .whole .value * 100 + decimals .value * pick (eqb (decimals .count) 1) 10 1))
+            ≡ readingOf (p .letter) (p .sign) true
+            (p .whole .value * 100 + decimals .value * pick (eqb (decimals .count) 1) 10 1)
             (end + 1 + decimals .count)
         with-point decimals h e =
             rw (word-at) (simp (c, le-leb 1 (p .whole .count) d, q, le-leb (p .whole .count) 4 h, e) (simp add-assoc))
@@ -132,41 +133,10 @@ module _ (bytes : List ℕ) (at : ℕ) (p : Parts bytes at) where
 -- no capital, no word
 pub no-capital :
     (bytes : List ℕ) (at letter : ℕ) → letter ≡ getD bytes at 0 → isCapital letter ≡ false
-    → readingAt at (word (drop at bytes)) ≡ Malformed
+    → readingAt at (word (drop at bytes)) ≡ readingAt at none
 no-capital bytes at letter l e =
     let front : ℕ = pick (isSign (getD bytes (at + 1) 0)) 2 1 in
     rw (word-parsed bytes at front (digits 6 0 0 (drop (at + front) bytes)) refl refl, ← l) (simp e)
-
--- ---- what an answer says of the word
-
--- no word
-pub answer-none : (at : ℕ) (o : Option Read) → Malformed ≡ readingAt at o → o ≡ none
-answer-none at none e = refl
-answer-none at (some r) e = cc
-
-abbrev pub Written : Type 0
-Written = written.Word
-
--- the word, by the parts of the answer
-abbrev pub readAs : ℕ → ℕ → Written → ℕ → Read
-readAs at letter v end = record { letter = letter; word = v; size = end - at }
-
-pub answer-some :
-    (at : ℕ) (o : Option Read) (letter : ℕ) (v : Written) (end : ℕ) → Word letter v end ≡ readingAt at o
-    → o ≡ some (readAs at letter v end)
-answer-some at none letter v end e = cc
-answer-some at (some r) letter v end e =
-    let l : letter ≡ r .letter = cc in
-    let w : v ≡ r .word = cc in
-    let p : end ≡ at + r .size = cc in
-    let s : end - at ≡ r .size = omega arith in
-    rw (l, w, s)
-
--- the place past it
-pub answer-past :
-    (at : ℕ) (o : Option Read) (letter : ℕ) (v : Written) (end : ℕ) → Word letter v end ≡ readingAt at o → at ≤ end
-answer-past at none letter v end e = let z : _≡_ {A = ℕ} 0 1 = cc in absurd (omega arith)
-answer-past at (some r) letter v end e = let p : end ≡ at + r .size = cc in omega arith
 
 -- ---- what holds of a word that was read from a line
 
@@ -181,16 +151,16 @@ pub record Formed (bs : List ℕ) (r : Read) : Type 0 where
 
 module _ (bs : List ℕ) where
   -- the parts of the word at the front
-  abbrev front : ℕ
+  abbrev pub front : ℕ
   front = pick (isSign (getD bs 1 0)) 2 1
 
-  abbrev whole : Digits
+  abbrev pub whole : Digits
   whole = digits 6 0 0 (drop front bs)
 
-  abbrev stop : ℕ
+  abbrev pub stop : ℕ
   stop = getD bs (front + whole .count) 0
 
-  abbrev decimals : Digits
+  abbrev pub decimals : Digits
   decimals = digits 2 0 0 (drop (front + whole .count + 1) bs)
 
   abbrev wholeRead : Read
@@ -209,18 +179,18 @@ module _ (bs : List ℕ) where
         size = front + whole .count + 1 + decimals .count;
       }
 
-  word-is : word bs ≡ parsed (getD bs 0 0) (getD bs 1 0) front whole stop decimals
+  pub word-is : word bs ≡ parsed (getD bs 0 0) (getD bs 1 0) front whole stop decimals
   unfolding word
   word-is = refl
 
   module _ (c : isCapital (getD bs 0 0) ≡ true) where
-    front-fits : front ≤ length bs
+    pub front-fits : front ≤ length bs
     front-fits = omega (arith, front-inside bs 0 front (capital-inside bs 0 c) refl)
 
     whole-bounded : Bounded 6 0 (drop front bs) whole
     whole-bounded = digits-bounded 6 0 0 (drop front bs) (lit< tt)
 
-    whole-fits : front + whole .count ≤ length bs
+    pub whole-fits : front + whole .count ≤ length bs
     whole-fits = omega (arith, front-fits, whole-bounded .inside, length-drop front bs)
 
     whole-formed : 1 ≤ whole .count → Formed bs wholeRead
@@ -290,3 +260,31 @@ module _ (bs : List ℕ) where
           let q : pointRead ≡ r = cc in
           subst (Formed bs) q
           (point-formed (letter-is f) (eqb-true stop point g) (leb-true (whole .count) 4 h))
+
+-- ---- what an answer says of the word
+
+-- the word, by the code's answer
+abbrev pub readAs : ℕ → Reading → Read
+readAs at r = record { letter = r .letter; word = wordIn (r .form) (r .number); size = r .end - at }
+
+-- no form, no word
+pub answer-none : (at : ℕ) (o : Option Read) (r : Reading) → r ≡ readingAt at o → r .form ≡ 0 → o ≡ none
+answer-none at none r e z = refl
+answer-none at (some v) r e z =
+    let f : r .form ≡ readingAt at (some v) .form = ap (λ (q : Reading). q .form) e in
+    absurd (omega (arith, form-positive (v .word .signed) (v .word .pointed)))
+
+-- a word, and the place past it
+pub answer-some :
+    (bs : List ℕ) (at : ℕ) (r : Reading) → r ≡ readingAt at (word bs) → (r .form ≡ 0 → ⊥)
+    → (word bs ≡ some (readAs at r)) × (at ≤ r .end)
+answer-some bs at r e z = go (word bs) refl
+  where
+    go : (o : Option Read) → word bs ≡ o → (word bs ≡ some (readAs at r)) × (at ≤ r .end)
+    go none f =
+        let q : r .form ≡ 0 = ap (λ (q : Reading). q .form) (e ∙ ap (readingAt at) f) in
+        absurd (z q)
+    go (some v) f =
+        let q : r ≡ readingAt at (some v) = e ∙ ap (readingAt at) f in
+        let s : at + v .size - at ≡ v .size = omega arith in
+        rw q (f ∙ rw (form-word (v .word) (formed bs v f .written), s), omega arith)

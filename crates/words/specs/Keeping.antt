@@ -9,7 +9,8 @@ use lib.ListN.{getD, drop}
 use Rattle.aries.specs.declared.word.Word.{Word}
 use Rattle.aries.specs.declared.word.Words.{Words}
 use Rattle.aries.specs.Test.{either, pick}
-use Rattle.aries.specs.Words.{has}
+use Rattle.aries.specs.Letters.{letterG}
+use Rattle.aries.specs.Words.{has, added}
 use Rattle.words.specs.declared.Tally.{Tally}
 
 -- ---- by letter
@@ -19,9 +20,9 @@ abbrev pub wordIn : ℕ → ℤ → Word
 wordIn form number =
     record { written = ltb 0 form; signed = either (eqb form 2) (eqb form 4); pointed = leb 3 form; value = number }
 
--- the form of a word that is written
-abbrev pub formIn : Word → ℕ
-formIn v = pick (v .pointed) (pick (v .signed) 4 3) (pick (v .signed) 2 1)
+-- the form of a word that is written, by whether it has a sign and a point
+abbrev pub formOf : Bool → Bool → ℕ
+formOf signed pointed = pick pointed (pick signed 4 3) (pick signed 2 1)
 
 -- the words that two lists stand for at their first places
 abbrev pub firstWords : ℕ → List ℕ → List ℤ → List Word
@@ -54,6 +55,7 @@ abbrev pub retold : Tally → Words → Tally
 retold t w =
     record {
       formed = t .formed;
+      end = t .end;
       others = w .others;
       begun = w .begun;
       coded = w .coded;
@@ -63,16 +65,18 @@ retold t w =
       misplaced = w .misplaced;
     }
 
--- A tally of more words, whatever the letters of those before them, but for one of which it is known whether it stands.
-pub record Tells (t : Tally) (letter : ℕ) (before : Bool) (more : Words → Words) (answer : Tally) : Type 0 where
+-- A tally with a word more whose letter is not G, whatever the letters before it, but for whether its own is among them.
+pub record Tells (t : Tally) (letter : ℕ) (before : Bool) (answer : Tally) : Type 0 where
   pub told :
-      (letters : List Word) → before ≡ has (wordsFrom letters t) letter → answer ≡ retold t (more (wordsFrom letters t))
+      (letters : List Word) (v : Word) → (letter ≡ letterG → ⊥) → before ≡ has (wordsFrom letters t) letter
+      → answer ≡ retold t (added (wordsFrom letters t) letter v)
 
 -- nothing is said yet
 abbrev pub noTally : Tally
 noTally =
     record {
       formed = true;
+      end = 0;
       others = 0;
       begun = false;
       coded = false;

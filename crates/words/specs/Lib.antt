@@ -1,3 +1,3 @@
-pub mod Reading
 pub mod Keeping
+pub mod Reading
 pub mod Gathering

@@ -1,35 +1,59 @@
 // The words of a block: digits, a word, and all words of a line by their letters.
-ghost use mathlib.Core.List.{[]};
+ghost use mathlib.Core.List.{List, [], _∷_};
+ghost use mathlib.Core.Option.{none};
 ghost use mathlib.Core.Path.{_≡_};
 ghost use Prim.Native.Nat.{_+_, _*_, _^_, _≤_, _<_};
 ghost use lib.Dec.{eqb};
 ghost use lib.IntN.{pos};
-ghost use lib.ListN.{length, drop, getD, replicate};
-ghost use Rattle.aries.specs.Test.{both, either, within, pick};
-ghost use Rattle.aries.specs.Letters.{letterA};
+ghost use lib.ListN.{drop, getD, replicate};
+ghost use Rattle.aries.specs.declared.word.Word.{Word};
+ghost use Rattle.aries.specs.Test.{both, among, within, pick};
+ghost use Rattle.aries.specs.Letters.{letterA, letterG};
 ghost use Rattle.aries.specs.Text.{isCapital, isDigit};
-ghost use Rattle.aries.specs.Words.{digits, isSign, word, wordOf, minus};
-ghost use Rattle.aries.specs.Words.{isPlain, isReadingCode, isPatternCode};
-ghost use Rattle.aries.specs.Words.{noWord, withReading, withCode, withNumber, withLetter, added};
-ghost use Rattle.words.specs.Gathering.{Gathers};
-ghost use Rattle.words.specs.Keeping.{wordIn, formIn, wordsFrom, retold, Tells};
-ghost use Rattle.words.specs.Reading.{held, readingAt};
-use aries::word::Reading;
+ghost use Rattle.aries.specs.Words.{digits, isSign, word};
+ghost use Rattle.aries.specs.Words.{isPlain, isPatternCode};
+ghost use Rattle.aries.specs.Words.{noWord, withNumber, added};
+ghost use Rattle.text.specs.Lines.{lineLength};
+ghost use Rattle.words.specs.Gathering.{firstLine, Gathers};
+ghost use Rattle.words.specs.Keeping.{wordIn, formOf, wordsFrom, retold, Tells};
+ghost use Rattle.words.specs.Reading.{held, readingOf, readingAt};
 use aries::word::Word;
 use signed::size;
 use signed::with_sign;
 
+const LINE_FEED: u8 = 10;
+
 // Digits that were read: their value and how many they are.
-pub struct Digits {
-    pub value: u32,
-    pub count: usize,
+struct Digits {
+    value: u32,
+    count: usize,
+}
+
+// What stands at a place where a word is due: a word with its letter, its form, its number and the place past it. Where
+// it has not the form of a word, its form is 0.
+struct Reading {
+    letter: u8,
+    form: u8,
+    number: i32,
+    end: usize,
 }
 
 // The byte at a place, 0 past the end.
-fn byte_at(bytes: &[u8], at: usize) -> u8
-    ensures { λ r. ⌜ r ≡ getD (now (bytes .entry)) at 0 ⌝ }
+fn byte_at(text: &[u8], at: usize) -> u8
+    ensures { λ r. ⌜ r ≡ getD (now (text .entry)) at 0 ⌝ }
 {
-    if at < bytes.len() { bytes[at] } else { 0 }
+    if at < text.len() { text[at] } else { 0 }
+}
+
+// Whether the line that starts at a place has no bytes.
+fn is_line_end(text: &[u8], at: usize) -> bool
+    ensures { λ r. ⌜ r ≡ eqb (lineLength (drop at (now (text .entry)))) 0 ⌝ }
+{
+    if at < text.len() {
+        text[at] == LINE_FEED
+    } else {
+        true
+    }
 }
 
 // Whether low ≤ b ≤ high.
@@ -61,14 +85,14 @@ fn is_sign(b: u8) -> bool
 }
 
 // The digits at a place, at most so many.
-pub fn read_digits(bytes: &[u8], from: usize, most: usize) -> Digits
-    requires { ⌜ (from ≤ length (now bytes)) × (most ≤ 6) ⌝ }
-    ensures { λ r. ⌜ r ≡ held (digits most 0 0 (drop from (now (bytes .entry)))) ⌝ }
+fn read_digits(text: &[u8], from: usize, most: usize) -> Digits
+    requires { ⌜ most ≤ 6 ⌝ }
+    ensures { λ r. ⌜ r ≡ held (digits most 0 0 (drop from (now (text .entry)))) ⌝ }
 {
     let mut value: u32 = 0;
     let mut count = 0;
     while count < most {
-        let b = byte_at(bytes, from + count);
+        let b = byte_at(text, from + count);
         if !is_digit(b) {
             return Digits { value, count };
         }
@@ -97,70 +121,83 @@ fn hundredths_of(whole: u32, decimals: Digits) -> u32
     }
 }
 
-// A word from the byte where its sign is due, and its number.
-fn make_word(sign: u8, pointed: bool, number: u32) -> Word
-    requires { ⌜ number < 1000000 ⌝ }
-    ensures { λ r. ⌜ r ≡ wordOf (isSign sign) (eqb sign minus) pointed number ⌝ }
+// The form of a word: 1, with a sign 2, with a point 3, with both 4.
+fn form_of(signed: bool, pointed: bool) -> u8
+    ensures { λ r. ⌜ r ≡ formOf signed pointed ⌝ }
 {
-    let signed = is_sign(sign);
-    let value = with_sign(sign == b'-', number);
-    Word {
-        written: true,
-        signed,
-        pointed,
-        value,
+    if pointed {
+        if signed { 4 } else { 3 }
+    } else {
+        if signed { 2 } else { 1 }
+    }
+}
+
+// A word from its letter, the byte where its sign is due, its number and the place past it.
+fn make_reading(letter: u8, sign: u8, pointed: bool, number: u32, end: usize) -> Reading
+    requires { ⌜ number < 1000000 ⌝ }
+    ensures { λ r. ⌜ r ≡ readingOf letter sign pointed number end ⌝ }
+{
+    let form = form_of(is_sign(sign), pointed);
+    let number = with_sign(sign == b'-', number);
+    Reading {
+        letter,
+        form,
+        number,
+        end,
+    }
+}
+
+// No word stands at a place.
+fn no_reading(at: usize) -> Reading
+    ensures { λ r. ⌜ r ≡ readingAt at none ⌝ }
+{
+    Reading {
+        letter: 0,
+        form: 0,
+        number: 0,
+        end: at,
     }
 }
 
 // The word at a place.
-pub fn read_word(bytes: &[u8], at: usize) -> Reading
-    requires { ⌜ at ≤ length (now bytes) ⌝ }
-    ensures { λ r. ⌜ r ≡ readingAt at (word (drop at (now (bytes .entry)))) ⌝ }
+fn read_word(text: &[u8], at: usize) -> Reading
+    ensures { λ r. ⌜ r ≡ readingAt at (word (drop at (now (text .entry)))) ⌝ }
 {
-    let letter = byte_at(bytes, at);
+    let letter = byte_at(text, at);
     if !is_capital(letter) {
-        return Reading::Malformed;
+        return no_reading(at);
     }
-    let sign = byte_at(bytes, at + 1);
+    let sign = byte_at(text, at + 1);
     let from = at + front_size(sign);
-    let whole = read_digits(bytes, from, 6);
+    let whole = read_digits(text, from, 6);
     if whole.count == 0 {
-        return Reading::Malformed;
+        return no_reading(at);
     }
     let end = from + whole.count;
-    if byte_at(bytes, end) != b'.' {
-        let word = make_word(sign, false, whole.value);
-        return Reading::Word(letter, word, end);
+    if byte_at(text, end) != b'.' {
+        return make_reading(letter, sign, false, whole.value, end);
     }
     if 4 < whole.count {
-        return Reading::Malformed;
+        return no_reading(at);
     }
-    let decimals = read_digits(bytes, end + 1, 2);
-    let word = make_word(sign, true, hundredths_of(whole.value, decimals));
-    Reading::Word(letter, word, end + 1 + decimals.count)
+    let decimals = read_digits(text, end + 1, 2);
+    let number = hundredths_of(whole.value, decimals);
+    make_reading(letter, sign, true, number, end + 1 + decimals.count)
 }
 
-// Whether one of two tests passes.
-fn is_either(a: bool, b: bool) -> bool
-    ensures { λ r. ⌜ r ≡ either a b ⌝ }
+// Whether a word with a form has neither sign nor point.
+fn is_plain(form: u8) -> bool
+    ensures { λ r. ⌜ r ≡ isPlain (wordIn form (pos 0)) ⌝ }
 {
-    if a { true } else { b }
-}
-
-// Whether a number has neither sign nor point.
-fn is_plain(word: Word) -> bool
-    ensures { λ r. ⌜ r ≡ isPlain word ⌝ }
-{
-    if word.signed { false } else { !word.pointed }
+    form < 2
 }
 
 // Whether a G word is G90 or G91.
-fn is_reading_code(word: Word) -> bool
-    ensures { λ r. ⌜ r ≡ isReadingCode word ⌝ }
+fn is_reading_code(form: u8, code: u32) -> bool
+    ensures { λ r. ⌜ r ≡ both (isPlain (wordIn form (pos 0))) (among (90 ∷ 91 ∷ []) code) ⌝ }
 {
-    let code = size(word.value);
-    if is_plain(word) {
-        is_either(code == 90, code == 91)
+    if is_plain(form) {
+        (code == 90) | (code == 91)
     } else {
         false
     }
@@ -184,6 +221,8 @@ fn is_pattern_code(code: u32) -> bool
 pub struct Tally {
     // every word has its form
     pub formed: bool,
+    // where the line ends, or its first word that has not its form starts
+    pub end: usize,
     // how many words there are besides N and G
     pub others: usize,
     // some word has been read
@@ -196,26 +235,21 @@ pub struct Tally {
     pub misplaced: bool,
 }
 
-// The tally with one of G90, G91.
-fn with_reading(mut tally: Tally, word: Word) -> Tally
-    ensures { λ r. ⌜ r ≡ retold tally (withReading (wordsFrom [] tally) word) ⌝ }
+// The tally with a G word: one of G90, G91, or a code.
+fn with_g(mut tally: Tally, form: u8, number: i32) -> Tally
+    ensures { λ r. ⌜ ((letters : List Word) → r ≡ retold tally (added (wordsFrom letters tally) letterG (wordIn form number))) ⌝ }
 {
-    tally.misplaced = is_either(tally.misplaced, tally.read);
+    let code = size(number);
     tally.begun = true;
-    tally.read = true;
-    tally.incremental = size(word.value) == 91;
-    tally
-}
-
-// The tally with another G.
-fn with_code(mut tally: Tally, word: Word) -> Tally
-    ensures { λ r. ⌜ r ≡ retold tally (withCode (wordsFrom [] tally) word) ⌝ }
-{
-    let again = is_either(tally.coded, !is_plain(word));
-    tally.misplaced = is_either(tally.misplaced, again);
-    tally.begun = true;
+    if is_reading_code(form, code) {
+        tally.misplaced = tally.misplaced | tally.read;
+        tally.read = true;
+        tally.incremental = code == 91;
+        return tally;
+    }
+    tally.misplaced = tally.misplaced | (tally.coded | !is_plain(form));
     tally.coded = true;
-    tally.code = size(word.value);
+    tally.code = code;
     tally
 }
 
@@ -223,7 +257,7 @@ fn with_code(mut tally: Tally, word: Word) -> Tally
 fn with_number(mut tally: Tally) -> Tally
     ensures { λ r. ⌜ r ≡ retold tally (withNumber (wordsFrom [] tally) noWord) ⌝ }
 {
-    tally.misplaced = is_either(tally.misplaced, tally.begun);
+    tally.misplaced = tally.misplaced | tally.begun;
     tally.begun = true;
     tally
 }
@@ -238,44 +272,19 @@ fn is_late(letter: u8, coded: bool, code: u32) -> bool
     if coded { is_pattern_code(code) } else { false }
 }
 
-// The tally with a letter other than G and N; before: it stands in the block already.
+// The tally with a letter other than G; before: it stands in the block already.
 fn with_letter(mut tally: Tally, letter: u8, before: bool) -> Tally
     requires { ⌜ tally .others + 1 < 2 ^ 64 ⌝ }
-    ensures { λ r. ⌜ Tells tally letter before (λ w. withLetter w letter noWord) r ⌝ }
+    ensures { λ r. ⌜ Tells tally letter before r ⌝ }
 {
-    let late = is_late(letter, tally.coded, tally.code);
-    tally.misplaced = is_either(tally.misplaced, is_either(before, late));
-    tally.begun = true;
-    tally.others = tally.others + 1;
-    tally
-}
-
-// The tally with one word more; before: its letter stands in the block already.
-fn add(tally: Tally, letter: u8, word: Word, before: bool) -> Tally
-    requires { ⌜ tally .others + 1 < 2 ^ 64 ⌝ }
-    ensures { λ r. ⌜ Tells tally letter before (λ w. added w letter word) r ⌝ }
-{
-    if letter == b'G' {
-        if is_reading_code(word) {
-            return with_reading(tally, word);
-        }
-        return with_code(tally, word);
-    }
     if letter == b'N' {
         return with_number(tally);
     }
-    with_letter(tally, letter, before)
-}
-
-// The form of a word that is written: 1, with a sign 2, with a point 3, with both 4.
-fn form_of(word: Word) -> u8
-    ensures { λ r. ⌜ r ≡ formIn word ⌝ }
-{
-    if word.pointed {
-        if word.signed { 4 } else { 3 }
-    } else {
-        if word.signed { 2 } else { 1 }
-    }
+    let late = is_late(letter, tally.coded, tally.code);
+    tally.misplaced = tally.misplaced | (before | late);
+    tally.begun = true;
+    tally.others = tally.others + 1;
+    tally
 }
 
 // The word with a form and a number; with 0 for its form it is absent.
@@ -290,14 +299,15 @@ pub fn word_in(form: u8, number: i32) -> Word
     }
 }
 
-// The words of a block, up to the first that has not its form. Those that are kept by letter are written to two lists
-// from A to Z: the form of each, 0 where there is none, and its number.
-pub fn read_words(bytes: &[u8], forms: &mut [u8; 26], numbers: &mut [i32; 26]) -> Tally
+// The words of the line that starts at a place, up to the first that has not its form. Those that are kept by letter are
+// written to two lists from A to Z: the form of each, 0 where there is none, and its number.
+pub fn read_words(text: &[u8], from: usize, forms: &mut [u8; 26], numbers: &mut [i32; 26]) -> Tally
     requires { ⌜ (now forms ≡ replicate 26 0) × (now numbers ≡ replicate 26 (pos 0)) ⌝ }
-    ensures { λ r. ⌜ Gathers (now (bytes .entry)) r (now (forms .exit)) (now (numbers .exit)) ⌝ }
+    ensures { λ r. ⌜ Gathers (firstLine (drop from (now (text .entry)))) from r (now (forms .exit)) (now (numbers .exit)) ⌝ }
 {
     let mut tally = Tally {
         formed: true,
+        end: from,
         others: 0,
         begun: false,
         coded: false,
@@ -306,26 +316,25 @@ pub fn read_words(bytes: &[u8], forms: &mut [u8; 26], numbers: &mut [i32; 26]) -
         incremental: false,
         misplaced: false,
     };
-    let mut at = 0;
-    while at < bytes.len() {
-        let reading = read_word(bytes, at);
-        match reading {
-            Reading::Word(letter, word, end) => {
-                at = end;
-                let index = (letter - b'A') as usize;
-                tally = add(tally, letter, word, 0 < forms[index]);
-                if letter == b'G' {
-                    continue;
-                }
-                forms[index] = form_of(word);
-                let number = word.value;
-                numbers[index] = number;
-            }
-            Reading::Malformed => {
-                tally.formed = false;
-                return tally;
-            }
+    let mut at = from;
+    loop {
+        let word = read_word(text, at);
+        if word.form == 0 {
+            tally.formed = is_line_end(text, at);
+            tally.end = at;
+            return tally;
         }
+        at = word.end;
+        let letter = word.letter;
+        if letter == b'G' {
+            tally = with_g(tally, word.form, word.number);
+            continue;
+        }
+        let index = (letter - b'A') as usize;
+        tally = with_letter(tally, letter, 0 < forms[index]);
+        let form = word.form;
+        forms[index] = form;
+        let number = word.number;
+        numbers[index] = number;
     }
-    tally
 }

@@ -18,21 +18,21 @@ use Rattle.words.proofs.read_digits.Statement.{statement}
 use Rattle.words.proofs.read_digits.Tie as tie
 
 abbrev Inv-loop : tie.InvT-loop
-Inv-loop bytes from most value₀ count₀ value count =
+Inv-loop text from most value₀ count₀ value count =
     (count ≤ most)
-    × (from + count ≤ length bytes)
+    × (count ≤ length text - from)
     × (value < 10 ^ count)
-    × (digits (most - count) value count (drop (from + count) bytes) ≡ digits most 0 0 (drop from bytes))
+    × (digits (most - count) value count (drop (from + count) text) ≡ digits most 0 0 (drop from text))
 
 abbrev μ-loop : tie.MeasureT-loop
-μ-loop bytes from most value₀ count₀ value count = most - count
+μ-loop text from most value₀ count₀ value count = most - count
 
 -- a digit stands at the place
 module _ (c : tie.Else1 Inv-loop μ-loop) where
   abbrev place : ℕ
   place = c .before .before .before .before .before .before .args .from + c .before .before .before .before .loop .count
 
-  digit : isDigit (getD (c .before .before .before .before .before .before .args .bytes .now) place 0) ≡ true
+  digit : isDigit (getD (c .before .before .before .before .before .before .args .text .now) place 0) ≡ true
   digit =
       sym (c .before .is-digit .ensures ∙ ap isDigit (c .before .before .byte-at .ensures))
       ∙ not-false (c .before .is-digit .result) (c .if1 .left)
@@ -65,10 +65,10 @@ returns c =
     let w = c .before .before .before .before .loop in
     let a = c .before .before .before .before .before .before .args in
     let i = a .from + w .count in
-    let stop : isDigit (getD (a .bytes .now) i 0) ≡ false =
+    let stop : isDigit (getD (a .text .now) i 0) ≡ false =
     sym (c .before .is-digit .ensures ∙ ap isDigit (c .before .before .byte-at .ensures))
     ∙ not-true (c .before .is-digit .result) (c .if1 .taken) in
-    ap held (sym (digits-stop (a .bytes .now) (w .value) (w .count) i (a .most - w .count) stop) ∙ w .inv .3)
+    ap held (sym (digits-stop (a .text .now) (w .value) (w .count) i (a .most - w .count) stop) ∙ w .inv .3)
 
 mul-value : tie.Need-mul-value Inv-loop μ-loop
 mul-value c = omega (arith, room c)
@@ -95,17 +95,17 @@ loop-again c =
     let i = a .from + w .count in
     let next : a .from + (w .count + 1) ≡ i + 1 = omega arith in (
       omega arith,
-      omega (arith, digit-inside (a .bytes .now) i (digit c)),
+      omega (arith, digit-inside (a .text .now) i (digit c)),
       one-more (w .value) (c .before .before .byte-at .result - 48) (w .count) (w .inv .2) (omega (arith, high c)),
       rw (next, c .before .before .byte-at .ensures)
-          (sym (digits-more (a .bytes .now) (w .value) (w .count) i (a .most) (digit c) (omega arith)) ∙ w .inv .3),
+          (sym (digits-more (a .text .now) (w .value) (w .count) i (a .most) (digit c) (omega arith)) ∙ w .inv .3),
     )
 
 returns-2 : tie.Need-returns-2 Inv-loop μ-loop
 returns-2 c =
     let w = c .before .loop in
     let a = c .before .before .before .args in
-    let rest = drop (a .from + w .count) (a .bytes .now) in
+    let rest = drop (a .from + w .count) (a .text .now) in
     ap held (sym (digits-full (a .most - w .count) (w .value) (w .count) rest (omega arith)) ∙ w .inv .3)
 
 pub read-digits-spec : {M : Type 1} → statement M

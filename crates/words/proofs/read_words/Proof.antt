@@ -1,11 +1,9 @@
--- The invariant: the words from here on, after those read, are the words of the line; no more are counted than
--- bytes were passed; and all had their form. Assumes nothing.
-use mathlib.Core.Path.{_≡_, refl, sym, ap, _∙_}
-use mathlib.Core.Bool.{true}
+-- The invariant: the words from here on, after those read, are the words of the line; and no more are counted than
+-- bytes stand before here. Assumes nothing.
+use mathlib.Core.Path.{_≡_, refl, sym, ap, _∙_, subst}
 use mathlib.Core.List.{List}
-use mathlib.Core.Option.{none, some}
+use mathlib.Core.Option.{some}
 use Prim.Native.Nat.{ℕ, _+_, _-_, _≤_, _<_}
-use native.Mathlib.Nat.{sub-zero}
 use native.Mathlib.Omega.{arith}
 use borrow.Author.Needs.{needs}
 use mir.Syntax.{w32}
@@ -15,218 +13,182 @@ use lib.IntN.{ℤ}
 use lib.ListN.{length, drop, length-drop, getD, set, length-set}
 use Rattle.aries.specs.declared.word.Word.{Word}
 use Rattle.aries.specs.declared.word.Words.{Words}
-use Rattle.aries.specs.declared.word.Reading.the-variants as Reading
-use Rattle.aries.specs.Words.{word, has, added, gather, words}
+use Rattle.aries.specs.Letters.{letterG}
+use Rattle.aries.specs.Words.{word, has, added}
+use Rattle.words.specs.declared.Reading.{Reading}
 use Rattle.words.specs.declared.Tally.{Tally}
-use Rattle.words.specs.Reading.{readingAt}
-use Rattle.words.specs.Keeping.{formIn, lettersOf, wordsWith, retold}
+use Rattle.words.specs.Gathering.{firstLine}
+use Rattle.words.specs.Keeping.{wordIn, lettersOf, wordsWith, retold}
 use Rattle.words.proofs.Bytes.{capital-low, capital-high}
-use Rattle.words.proofs.Word.{answer-none, readAs, answer-some, answer-past, Formed, formed}
+use Rattle.words.proofs.Word.{answer-none, readAs, answer-some, Formed, formed}
 use Rattle.words.proofs.Added.{added-others, letters-g, letters-other}
-use Rattle.words.proofs.Keeping.{form-word, letters-set, letters-at, letters-none, words-from}
-use Rattle.words.proofs.Gathering.{words-start, gather-end, gather-none, gather-some, gathers-none, gathers-some}
+use Rattle.words.proofs.Keeping.{letters-set, letters-at, letters-none, words-from}
+use Rattle.words.proofs.Gathering.{Goes, goes-start, goes-none, goes-some, gathers}
 use Rattle.words.proofs.read_words.Statement.{statement}
 use Rattle.words.proofs.read_words.Tie as tie
 
 abbrev Inv-loop : tie.InvT-loop
-Inv-loop bytes forms₀ numbers₀ tally₀ at₀ forms numbers tally at =
-    (at ≤ length bytes)
-    × (tally .others ≤ at)
-    × (tally .formed ≡ true)
+Inv-loop text from forms₀ numbers₀ tally₀ at₀ forms numbers tally at =
+    (tally .others ≤ at)
     × (length forms ≡ 26)
     × (length numbers ≡ 26)
-    × (gather (length bytes - at) (wordsWith forms numbers tally) (drop at bytes) ≡ words bytes)
+    × Goes text from at (wordsWith forms numbers tally)
 
 abbrev μ-loop : tie.MeasureT-loop
-μ-loop bytes forms₀ numbers₀ tally₀ at₀ forms numbers tally at = length bytes - at
+μ-loop text from forms₀ numbers₀ tally₀ at₀ forms numbers tally at = length text - at
 
 -- the word that was read at the place
-module _ (c : tie.After-reading Inv-loop μ-loop) where
-  abbrev letter : ℕ
-  letter = c .reading .given .0 .0
+module _ (c : tie.Else1 Inv-loop μ-loop) where
+  abbrev here : tie.At-loop Inv-loop μ-loop
+  here = c .before .before .before
 
-  abbrev written : Word
-  written = c .reading .given .0 .1 .0
-
-  abbrev end : ℕ
-  end = c .reading .given .0 .1 .1 .0
+  abbrev text : List ℕ
+  text = here .before .before .args .text .now
 
   abbrev at : ℕ
-  at = c .before .before .before .before .loop .at
+  at = here .loop .at
 
-  abbrev bytes : List ℕ
-  bytes = c .before .before .before .before .before .before .args .bytes .now
+  abbrev reading : Reading
+  reading = c .before .before .read-word .result
+
+  abbrev index : ℕ
+  index = reading .letter - 65
+
+  abbrev written : Word
+  written = wordIn (reading .form) (reading .number)
 
   -- the words before it
-  abbrev forms : List ℕ
-  forms = c .before .before .before .before .loop .forms
-
-  abbrev numbers : List ℤ
-  numbers = c .before .before .before .before .loop .numbers
-
-  abbrev tally : Tally
-  tally = c .before .before .before .before .loop .tally
-
   abbrev earlier : Words
-  earlier = wordsWith forms numbers tally
+  earlier = wordsWith (here .loop .forms) (here .loop .numbers) (here .loop .tally)
 
   -- and those with it
   abbrev later : Words
-  later = added earlier letter written
+  later = added earlier (reading .letter) written
 
-  says : Reading.Word letter written end ≡ readingAt at (word (drop at bytes))
-  says = sym (c .reading .given .1) ∙ c .before .before .read-word .ensures
+  found : (word (drop at text) ≡ some (readAs at reading)) × (at ≤ reading .end)
+  found = answer-some (drop at text) at reading (c .before .before .read-word .ensures) (c .if1 .left)
 
-  found : word (drop at bytes) ≡ some (readAs at letter written end)
-  found = answer-some at (word (drop at bytes)) letter written end says
+  fits : Formed (drop at text) (readAs at reading)
+  fits = formed (drop at text) (readAs at reading) (found .0)
 
-  past : at ≤ end
-  past = answer-past at (word (drop at bytes)) letter written end says
+  less : length text - reading .end < length text - at
+  less = omega (arith, fits .some-bytes, fits .inside, length-drop at text)
 
-  fits : Formed (drop at bytes) (readAs at letter written end)
-  fits = formed (drop at bytes) (readAs at letter written end) found
-
-  end-inside : end ≤ length bytes
-  end-inside = omega (arith, fits .inside, length-drop at bytes, past)
-
-  goes-on : gather (length bytes - at) earlier (drop at bytes) ≡ gather (length bytes - end) later (drop end bytes)
-  goes-on =
-      let e : at + (end - at) ≡ end = omega (arith, past) in
-      gather-some bytes at earlier (readAs at letter written end) (c .before .before .before .loop-test .taken) found
-      ∙ ap (λ (k : ℕ). gather (length bytes - k) later (drop k bytes)) e
+  inside : at < length text
+  inside = omega (arith, fits .some-bytes, fits .inside, length-drop at text)
 
   -- its letter has a place among the 26
-  inside : letter - 65 < 26
-  inside = omega (arith, capital-high letter (fits .capital))
+  placed : index < 26
+  placed = omega (arith, capital-high (reading .letter) (fits .capital))
 
-  less : length bytes - end < length bytes - at
-  less = omega (arith, past, fits .some-bytes, end-inside)
+  -- its number is read back
+  back : toZ w32 (ofZ w32 (reading .number)) ≡ reading .number
+  back = search needs
 
--- the tally with it
-module _ (c : tie.After-add Inv-loop μ-loop) where
-  abbrev read : tie.After-reading Inv-loop μ-loop
-  read = c .before .before .before
-
-  before-is : ltb 0 (getD (forms read) (letter read - 65) 0) ≡ has (earlier read) (letter read)
-  before-is = sym (ap (λ (v : Word). v .written) (letters-at (forms read) (numbers read) (letter read - 65) (inside read)))
-
-  tells : c .add .result ≡ retold (tally read) (later read)
-  tells = c .add .ensures .told (lettersOf (forms read) (numbers read)) before-is
-
-  -- what holds again, with the two lists as they are then
+  -- what holds again, with the two lists and the tally as they are then
   again :
-      (fs : List ℕ) (ns : List ℤ) → length fs ≡ length (forms read) → length ns ≡ length (numbers read)
-      → lettersOf fs ns ≡ later read .letters
-      → (end read ≤ length (bytes read))
-      × (c .add .result .others ≤ end read)
-      × (c .add .result .formed ≡ true)
-      × (length fs ≡ 26)
-      × (length ns ≡ 26)
-      × (gather (length (bytes read) - end read) (wordsWith fs ns (c .add .result)) (drop (end read) (bytes read))
-      ≡ words (bytes read))
-  again fs ns f n e =
-      let inv = read .before .before .before .before .loop .inv in
-      let counted = ap (λ (t : Tally). t .others) tells in (
-        end-inside read,
-        omega (arith, counted, added-others (earlier read) (letter read) (written read), past read, fits read .some-bytes, inv .1),
-        ap (λ (t : Tally). t .formed) tells ∙ inv .2,
-        f ∙ inv .3,
-        n ∙ inv .4,
-        ap (λ (w : Words). gather (length (bytes read) - end read) w (drop (end read) (bytes read)))
-            (words-from (later read) (lettersOf fs ns) (tally read) (c .add .result) e tells)
-            ∙ sym (goes-on read)
-            ∙ inv .5,
+      (forms : List ℕ) (numbers : List ℤ) (tally : Tally)
+      → length forms ≡ length (here .loop .forms) → length numbers ≡ length (here .loop .numbers)
+      → wordsWith forms numbers tally ≡ later
+      → (tally .others ≤ reading .end)
+      × (length forms ≡ 26)
+      × (length numbers ≡ 26)
+      × Goes text (here .before .before .args .from) (reading .end) (wordsWith forms numbers tally)
+  again forms numbers tally f n e =
+      let inv = here .loop .inv in
+      let from = here .before .before .args .from in
+      let counted : tally .others ≡ later .others = ap (λ (w : Words). w .others) e in
+      let end : at + (reading .end - at) ≡ reading .end = omega (arith, found .1) in (
+        omega (arith, counted, added-others earlier (reading .letter) written, fits .some-bytes, inv .0),
+        f ∙ inv .1,
+        n ∙ inv .2,
+        rw e (rw end at (goes-some text from at earlier (inv .3) (readAs at reading) (found .0))),
       )
 
 loop-holds : tie.Need-loop-holds Inv-loop μ-loop
 loop-holds c =
+    let a = c .before .args in
     let p = c .before .pre in
-    let start = words-start (c .before .args .bytes .now) in
-    (omega arith, omega arith, refl, ap length (p .0), ap length (p .1), rw (p .0, p .1, letters-none, sub-zero) start)
+    (omega arith, ap length (p .0), ap length (p .1), rw (p .0, p .1, letters-none) (goes-start (a .text .now) (a .from)))
 
 read-word-requires : tie.Need-read-word-requires Inv-loop μ-loop
 read-word-requires c κs = search needs
 
-enum-known-reading : tie.Need-enum-known-reading Inv-loop μ-loop
-enum-known-reading c = search needs
+is-line-end-requires : tie.Need-is-line-end-requires Inv-loop μ-loop
+is-line-end-requires c κs = search needs
+
+returns : tie.Need-returns Inv-loop μ-loop
+returns c =
+    let r = c .before .before .before in
+    let w = r .before .loop in
+    let a = r .before .before .before .args in
+    let t = a .text .now in
+    let none-here = answer-none (w .at) (word (drop (w .at) t)) (r .read-word .result) (r .read-word .ensures) (c .before .if1 .taken) in
+    gathers (firstLine (drop (a .from) t)) (a .from) _ (w .forms) (w .numbers)
+    (goes-none t (a .from) (w .at) (wordsWith (w .forms) (w .numbers) (w .tally)) (w .inv .3) none-here
+    ∙ simp (c .is-line-end .ensures))
+
+with-g-requires : tie.Need-with-g-requires Inv-loop μ-loop
+with-g-requires c κs = search needs
+
+loop-less : tie.Need-loop-less Inv-loop μ-loop
+loop-less c = less (c .before .before .before)
+
+loop-again : tie.Need-loop-again Inv-loop μ-loop
+loop-again c =
+    let r = c .before .before .before in
+    let w = here r .loop in
+    let g = c .before .before .if2 .taken in
+    let tells : c .with-g .result ≡ retold (w .tally) (added (earlier r) letterG (written r)) =
+    simp (back r) at (c .with-g .ensures (lettersOf (w .forms) (w .numbers))) in
+    again r (w .forms) (w .numbers) (c .with-g .result) refl refl
+    (words-from (later r) (lettersOf (w .forms) (w .numbers)) (w .tally) (c .with-g .result)
+    (sym (letters-g (earlier r) (reading r .letter) (written r) g))
+    (tells
+    ∙ ap (λ (l : ℕ). retold (w .tally) (added (earlier r) l (written r))) (sym g)))
 
 sub-index : tie.Need-sub-index Inv-loop μ-loop
-sub-index c = capital-low (letter (c .before)) (fits (c .before) .capital)
+sub-index c = capital-low (reading (c .before) .letter) (fits (c .before) .capital)
 
 cast-index : tie.Need-cast-index Inv-loop μ-loop
 cast-index c = search needs
 
-element-copy-out-add : tie.Need-element-copy-out-add Inv-loop μ-loop
-element-copy-out-add c = inside (c .before)
+element-copy-out-with-letter : tie.Need-element-copy-out-with-letter Inv-loop μ-loop
+element-copy-out-with-letter c = placed (c .before)
 
-add-requires : tie.Need-add-requires Inv-loop μ-loop
-add-requires c κs =
-    let r = c .before .before in
-    omega (arith, r .before .before .before .before .loop .inv .1, r .before .before .before .loop-test .taken)
-
-loop-less : tie.Need-loop-less Inv-loop μ-loop
-loop-less c = less (read (c .before))
-
-loop-again : tie.Need-loop-again Inv-loop μ-loop
-loop-again c =
-    let r = read (c .before) in
-    again (c .before) (forms r) (numbers r) refl refl (sym (letters-g (earlier r) (letter r) (written r) (c .if1 .taken)))
-
-form-of-requires : tie.Need-form-of-requires Inv-loop μ-loop
-form-of-requires c κs = search needs
+with-letter-requires : tie.Need-with-letter-requires Inv-loop μ-loop
+with-letter-requires c κs = omega (arith, inside (c .before .before))
 
 element-write-forms : tie.Need-element-write-forms Inv-loop μ-loop
-element-write-forms c = inside (read (c .before .before))
+element-write-forms c = placed (c .before .before .before)
 
 mul-number : tie.Need-mul-number Inv-loop μ-loop
 mul-number c = search needs
 
 element-set-from-number : tie.Need-element-set-from-number Inv-loop μ-loop
-element-set-from-number c = inside (read (c .before .before .before))
+element-set-from-number c = placed (c .before .before .before .before)
 
 loop-less-2 : tie.Need-loop-less-2 Inv-loop μ-loop
-loop-less-2 c = less (read (c .before .before .before))
+loop-less-2 c = less (c .before .before .before .before)
 
 loop-again-2 : tie.Need-loop-again-2 Inv-loop μ-loop
 loop-again-2 c =
-    let r = read (c .before .before .before) in
-    let i = letter r - 65 in
-    let form = c .before .form-of in
-    let inv = r .before .before .before .before .loop .inv in
-    let back : toZ w32 (ofZ w32 (written r .value)) ≡ written r .value = search needs in
-    let number = toZ w32 (ofZ w32 (written r .value)) in
-    again (c .before .before .before) (set (forms r) i (form .result)) (set (numbers r) i number)
-    (length-set (forms r) i (form .result))
-    (length-set (numbers r) i number)
-    (rw (back, form .ensures)
-    (letters-set (forms r) (numbers r) i (formIn (written r)) (written r .value) (rw (inv .3) (inside r)) (rw (inv .4) (inside r))
-    ∙ ap (set (lettersOf (forms r) (numbers r)) i) (form-word (written r) (fits r .written))
-    ∙ sym (letters-other (earlier r) (letter r) (written r) (c .before .before .if1 .left))))
-
-enum-told : tie.Need-enum-told Inv-loop μ-loop
-enum-told c = search needs
-
-returns : tie.Need-returns Inv-loop μ-loop
-returns c =
-    let w = c .before .before .before .before .loop in
-    let bytes = c .before .before .before .before .before .before .args .bytes .now in
-    let bad : word (drop (w .at) bytes) ≡ none =
-    answer-none (w .at) (word (drop (w .at) bytes)) (sym (c .enum-told .given .1) ∙ c .before .before .read-word .ensures) in
-    gathers-none bytes _ (w .forms) (w .numbers)
-    (sym (w .inv .5)
-    ∙ gather-none bytes (w .at) (wordsWith (w .forms) (w .numbers) (w .tally)) (length bytes - w .at)
-    (c .before .before .before .loop-test .taken) bad)
-    refl
-
-returns-2 : tie.Need-returns-2 Inv-loop μ-loop
-returns-2 c =
-    let w = c .before .loop in
-    let bytes = c .before .before .before .args .bytes .now in
-    gathers-some bytes (w .tally) (w .forms) (w .numbers)
-    (sym (w .inv .5)
-    ∙ gather-end bytes (w .at) (wordsWith (w .forms) (w .numbers) (w .tally)) (length bytes - w .at)
-    (c .loop-test .left))
-    (w .inv .2)
+    let q = c .before .before .before in
+    let r = q .before in
+    let w = here r .loop in
+    let i = index r in
+    let n = reading r .number in
+    let letters = lettersOf (w .forms) (w .numbers) in
+    let before-is : ltb 0 (getD (w .forms) i 0) ≡ has (earlier r) (reading r .letter) =
+    sym (ap (λ (v : Word). v .written) (letters-at (w .forms) (w .numbers) i (placed r))) in
+    again r (set (w .forms) i (reading r .form)) (set (w .numbers) i (toZ w32 (ofZ w32 n))) (c .before .with-letter .result)
+    (length-set (w .forms) i (reading r .form))
+    (length-set (w .numbers) i (toZ w32 (ofZ w32 n)))
+    (rw (back r)
+    (words-from (later r) (lettersOf (set (w .forms) i (reading r .form)) (set (w .numbers) i n)) (w .tally) (c .before .with-letter .result)
+    (letters-set (w .forms) (w .numbers) i (reading r .form) n (rw (w .inv .1) (placed r)) (rw (w .inv .2) (placed r))
+    ∙ sym (letters-other (earlier r) (reading r .letter) (written r) (q .if2 .left)))
+    (c .before .with-letter .ensures .told letters (written r) (q .if2 .left) before-is)))
 
 pub read-words-spec : {M : Type 1} → statement M
 read-words-spec =
@@ -236,19 +198,17 @@ read-words-spec =
     μ-loop
     loop-holds
     read-word-requires
-    enum-known-reading
-    sub-index
-    cast-index
-    element-copy-out-add
-    add-requires
+    is-line-end-requires
+    returns
+    with-g-requires
     loop-less
     loop-again
-    form-of-requires
+    sub-index
+    cast-index
+    element-copy-out-with-letter
+    with-letter-requires
     element-write-forms
     mul-number
     element-set-from-number
     loop-less-2
-    loop-again-2
-    enum-told
-    returns
-    returns-2)
+    loop-again-2)
