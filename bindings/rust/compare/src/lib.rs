@@ -3,6 +3,7 @@
 pub mod clock;
 pub mod damage;
 pub mod limits;
+pub mod old;
 pub mod pair;
 pub mod programs;
 pub mod random;
