@@ -1,4 +1,4 @@
-//! Links an older library beside the one to measure, if the build names one.
+//! Links copies of an older library and of the one to measure, if the build names an older one.
 
 use std::env;
 use std::path::{Path, PathBuf};
@@ -7,9 +7,11 @@ use std::process::{exit, Command};
 /// Names the older library.
 const OLD_VARIABLE: &str = "TOLKJIRP_OLD_LIB";
 
-/// The function of both libraries, and what it is called in the older one's copy.
+/// Names the library that the package `tolkjirp` links; its build script tells it.
+const NEW_VARIABLE: &str = "DEP_EXPORTED_LIBRARY";
+
+/// The function of a library.
 const FUNCTION: &str = "tolkjirp_expand";
-const OLD_FUNCTION: &str = "tolkjirp_expand_old";
 
 fn main() {
     println!("cargo:rerun-if-changed=build.rs");
@@ -18,21 +20,30 @@ fn main() {
     let Some(old) = env::var_os(OLD_VARIABLE).filter(|path| !path.is_empty()) else {
         return;
     };
-    let old = PathBuf::from(old);
-    println!("cargo:rerun-if-changed={}", old.display());
-    let folder = PathBuf::from(env::var_os("OUT_DIR").expect("cargo sets it"));
-    rename(&old, &folder.join("libexported_old.a"));
     println!("cargo:rustc-cfg=old_library");
-    println!("cargo:rustc-link-search=native={}", folder.display());
-    println!("cargo:rustc-link-lib=static=exported_old");
+    let new = env::var_os(NEW_VARIABLE).expect("the package tolkjirp sets it");
+    link_copy(Path::new(&old), "old");
+    link_copy(Path::new(&new), "new");
 }
 
-/// Copies a library with its function under the other name, and nothing else to be seen from outside.
-fn rename(library: &Path, copy: &Path) {
+/// Links a copy of a library, its function called by another name.
+fn link_copy(library: &Path, ending: &str) {
+    println!("cargo:rerun-if-changed={}", library.display());
+    let folder = PathBuf::from(env::var_os("OUT_DIR").expect("cargo sets it"));
+    write_copy(library, &folder.join(format!("libexported_{ending}.a")), ending);
+    println!("cargo:rustc-link-search=native={}", folder.display());
+    println!("cargo:rustc-link-lib=static=exported_{ending}");
+}
+
+/// Writes a copy that can stand beside another: the library's function is renamed and nothing else is seen from
+/// outside. All functions begin at multiples of 64 bytes, so that times don't go by where a linker happens to place
+/// them.
+fn write_copy(library: &Path, copy: &Path, ending: &str) {
     let status = Command::new("objcopy")
-        .arg(format!("--redefine-sym={FUNCTION}={OLD_FUNCTION}"))
+        .arg(format!("--redefine-sym={FUNCTION}={FUNCTION}_{ending}"))
         .arg(format!("--keep-global-symbol={FUNCTION}"))
-        .arg(format!("--keep-global-symbol={OLD_FUNCTION}"))
+        .arg(format!("--keep-global-symbol={FUNCTION}_{ending}"))
+        .arg("--set-section-alignment=.text*=64")
         .args([library, copy])
         .status();
     if !status.is_ok_and(|status| status.success()) {

@@ -1,9 +1,9 @@
 //! Compares the proved expander with the plain one: texts to try, and the comparison of two answers.
 
 pub mod clock;
+pub mod copies;
 pub mod damage;
 pub mod limits;
-pub mod old;
 pub mod pair;
 pub mod programs;
 pub mod random;

@@ -8,7 +8,7 @@ use std::process::ExitCode;
 use std::time::Duration;
 
 use compare::clock::thread_time;
-use compare::old::OLD;
+use compare::copies::NEW_AND_OLD;
 use compare::pair::{Answer, Difference, Expander, Pair, LIBRARY, PLAIN};
 use compare::workloads::{workloads, Workload};
 
@@ -53,15 +53,18 @@ fn arguments() -> (usize, String) {
     (rounds.max(1), word)
 }
 
-/// All expanders that are measured.
+/// The expanders to measure: the library, the plain one, and the older library if there is one.
 fn expanders() -> Vec<Expander> {
-    [Some(LIBRARY), Some(PLAIN), OLD].into_iter().flatten().collect()
+    match NEW_AND_OLD {
+        None => vec![LIBRARY, PLAIN],
+        Some([new, old]) => vec![new, PLAIN, old],
+    }
 }
 
 /// The answer to a text, if all expanders give the same.
 fn check(pair: &mut Pair, workload: &Workload) -> Result<Answer, Difference> {
-    if let Some(old) = OLD {
-        pair.compare_with(old, &workload.text, workload.list_length)?;
+    for other in NEW_AND_OLD.into_iter().flatten() {
+        pair.compare_with(other, &workload.text, workload.list_length)?;
     }
     pair.compare(&workload.text, workload.list_length)
 }
@@ -86,7 +89,7 @@ fn print_head(rounds: usize) {
     let mut cells = ["list", "answer", "library ns", "plain ns", "ratio"]
         .map(String::from)
         .to_vec();
-    if OLD.is_some() {
+    if NEW_AND_OLD.is_some() {
         cells.extend(["old ns", "new / old"].map(String::from));
     }
     print_row("text", &cells);
