@@ -1,8 +1,8 @@
 //! Compares the proved expander with the plain one: texts to try, and the comparison of two answers.
 
 pub mod clock;
-pub mod copies;
 pub mod damage;
+pub mod libraries;
 pub mod limits;
 pub mod pair;
 pub mod programs;

@@ -8,7 +8,7 @@ use std::process::ExitCode;
 use std::time::Duration;
 
 use compare::clock::thread_time;
-use compare::copies::NEW_AND_OLD;
+use compare::libraries::NEW_AND_OLD;
 use compare::pair::{Answer, Difference, Expander, Pair, LIBRARY, PLAIN};
 use compare::workloads::{workloads, Workload};
 
