@@ -21,6 +21,7 @@ fn main() {
     }
     println!("cargo:rustc-link-search=native={}", folder.display());
     println!("cargo:rustc-link-lib=static=exported");
+    println!("cargo:library={}", library.display());
 }
 
 fn library_folder() -> PathBuf {

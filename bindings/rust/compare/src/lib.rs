@@ -2,6 +2,7 @@
 
 pub mod clock;
 pub mod damage;
+pub mod libraries;
 pub mod limits;
 pub mod pair;
 pub mod programs;

@@ -1,4 +1,4 @@
-//! The two expanders side by side.
+//! Two expanders side by side.
 
 use std::fmt::Write;
 
@@ -10,6 +10,25 @@ pub struct Answer {
     pub count: usize,
     pub line: u64,
 }
+
+/// An expander and what it is called.
+#[derive(Clone, Copy)]
+pub struct Expander {
+    pub name: &'static str,
+    pub expand: fn(&[u8], &mut [i32]) -> Answer,
+}
+
+/// The proved library.
+pub const LIBRARY: Expander = Expander {
+    name: "library",
+    expand: library,
+};
+
+/// The expander in plain Rust.
+pub const PLAIN: Expander = Expander {
+    name: "plain",
+    expand: plain,
+};
 
 /// What the proved library answers.
 pub fn library(text: &[u8], list: &mut [i32]) -> Answer {
@@ -39,12 +58,13 @@ pub fn plain(text: &[u8], list: &mut [i32]) -> Answer {
     }
 }
 
-/// A text and list length for which the two differ.
+/// A text and list length for which the library and another expander differ.
 pub struct Difference {
     pub text: Vec<u8>,
     pub list_length: usize,
     pub library: Answer,
-    pub plain: Answer,
+    /// The other's name and answer.
+    pub other: (&'static str, Answer),
     /// The first place at which the lists differ.
     pub place: Option<usize>,
 }
@@ -57,7 +77,8 @@ impl Difference {
         writeln!(report, "text    b\"{text}\"").expect("a string takes all");
         writeln!(report, "list    {} numbers", self.list_length).expect("a string takes all");
         writeln!(report, "library {:?}", self.library).expect("a string takes all");
-        writeln!(report, "plain   {:?}", self.plain).expect("a string takes all");
+        let (name, answer) = self.other;
+        writeln!(report, "{name:<7} {answer:?}").expect("a string takes all");
         if let Some(place) = self.place {
             writeln!(report, "the lists differ at number {place}").expect("a string takes all");
         }
@@ -80,22 +101,28 @@ impl Pair {
         }
     }
 
-    /// Expands a text into two lists of a length, both full of other numbers before, and gives the common answer.
+    /// Compares the library with the plain expander.
     pub fn compare(&mut self, text: &[u8], list_length: usize) -> Result<Answer, Difference> {
+        self.compare_with(PLAIN, text, list_length)
+    }
+
+    /// Expands a text by the library and another into two lists of a length, both full of other numbers before, and
+    /// gives the common answer.
+    pub fn compare_with(&mut self, other: Expander, text: &[u8], list_length: usize) -> Result<Answer, Difference> {
         let first = &mut self.first[..list_length];
         let second = &mut self.second[..list_length];
         first.fill(-77_777_777);
         second.fill(77_777_777);
         let library = library(text, first);
-        let plain = plain(text, second);
-        if library == plain && first == second {
+        let answer = (other.expand)(text, second);
+        if library == answer && first == second {
             return Ok(library);
         }
         Err(Difference {
             text: text.to_vec(),
             list_length,
             library,
-            plain,
+            other: (other.name, answer),
             place: first.iter().zip(second.iter()).position(|(a, b)| a != b),
         })
     }

@@ -8,6 +8,10 @@ pub struct Workload {
 }
 
 const G92: &str = "G92 X600. Y600.\n";
+const G50: &str = "G50\n";
+
+/// The most bytes of a text.
+const MOST_BYTES: usize = 60_000;
 
 /// The numbers of a list for 4,096 hits.
 const USUAL: usize = 16_384;
@@ -23,10 +27,18 @@ pub fn workloads() -> Vec<Workload> {
         ("90,000 blocks through nested macros", nested(), USUAL),
         ("grid of 4,096 hits", grid(), USUAL),
         ("arcs and circles", arcs(), USUAL),
+        ("U and V pairs", macro_pairs(), USUAL),
+        ("W lines", calls(""), USUAL),
+        ("W lines and moves", calls("G70X1.Y2.\n"), USUAL),
+        ("G93 lines", offsets(), USUAL),
+        ("G75 lines", small_layouts(), USUAL),
+        ("B lines", recalls(), USUAL),
+        ("G28 lines of one hit", short_lines(), USUAL),
         ("4,096 copies of a part", copies(), USUAL),
-        ("400 x 10,000 copies, empty part", empty_part(""), USUAL),
-        ("  part of 40,000 spaces", empty_part(&spaces(40_000)), USUAL),
-        ("  part of 3,000 line feeds", empty_part(&line_feeds(3_000)), USUAL),
+        ("400 x 10,000 copies, empty part", empty_part("", 400), USUAL),
+        ("  part of 40,000 spaces", empty_part(&spaces(40_000), 400), USUAL),
+        ("  part of 3,000 line feeds", empty_part(&line_feeds(3_000), 400), USUAL),
+        ("6,600 x 10,000 copies, empty part", empty_part("", 6_600), USUAL),
         ("5 x 10,000 copies, part of one block", one_block("", ""), USUAL),
         ("  after 30,000 spaces", one_block(&spaces(30_000), ""), USUAL),
         ("  with 30,000 spaces in it", one_block("", &spaces(30_000)), USUAL),
@@ -54,7 +66,7 @@ fn shortest() -> String {
 }
 
 fn small_plate() -> String {
-    format!("{G92}G90 X100. Y100. T2\nG28 I10. J45. K2\nG72 X300. Y200.\nG26 I25. J45. K4\nG50\n")
+    format!("{G92}G90 X100. Y100. T2\nG28 I10. J45. K2\nG72 X300. Y200.\nG26 I25. J45. K4\n{G50}")
 }
 
 /// Positions, two in three with both axes, up to 60,000 bytes.
@@ -67,13 +79,13 @@ fn flat() -> String {
             1 => format!("X{x}.5 Y{y}.25\n"),
             _ => format!("N{} G70 X{x}.\n", number % 10_000),
         };
-        if text.len() + block.len() + 4 > 60_000 {
+        if text.len() + block.len() + G50.len() > MOST_BYTES {
             break;
         }
         text.push_str(&block);
     }
-    let missing = 60_000 - text.len() - 4;
-    format!("{text}{}G50\n", " ".repeat(missing))
+    let missing = MOST_BYTES - text.len() - G50.len();
+    format!("{text}{}{G50}", spaces(missing))
 }
 
 /// Three levels of macros, with moves at the bottom.
@@ -82,13 +94,13 @@ fn nested() -> String {
     let middle = "W60\n".repeat(50);
     let upper = "W61\n".repeat(50);
     format!(
-        "{G92}U60\n{moves}V60\nU61\n{middle}V61\nU62\n{upper}V62\n{}G50\n",
+        "{G92}U60\n{moves}V60\nU61\n{middle}V61\nU62\n{upper}V62\n{}{G50}",
         "W62\n".repeat(4)
     )
 }
 
 fn grid() -> String {
-    format!("{G92}X1. Y1. T2\nG36 I9. P63 J9. K63\nG50\n")
+    format!("{G92}X1. Y1. T2\nG36 I9. P63 J9. K63\n{G50}")
 }
 
 fn arcs() -> String {
@@ -98,28 +110,81 @@ fn arcs() -> String {
         "G28 I0.21 J33.33 K300",
     ];
     let blocks = patterns.map(|pattern| format!("G72 X300. Y300.\n{pattern}\n"));
-    format!("{G92}X300. Y300. T5\n{}G50\n", blocks.concat().repeat(3))
+    format!("{G92}X300. Y300. T5\n{}{G50}", blocks.concat().repeat(3))
+}
+
+/// As many repetitions of some lines as the text takes, after others.
+fn filled(before: &str, lines: &str) -> String {
+    let room = MOST_BYTES - G92.len() - before.len() - G50.len();
+    format!("{G92}{before}{}{G50}", lines.repeat(room / lines.len()))
+}
+
+/// A macro stored again and again.
+fn macro_pairs() -> String {
+    filled("", "U60\nM8\nV60\n")
+}
+
+/// Calls of a short macro, each with some lines after it.
+fn calls(after: &str) -> String {
+    filled("U60\nM8\nV60\n", &format!("W60\n{after}"))
+}
+
+fn offsets() -> String {
+    filled("", "G93X1.Y1.\n")
+}
+
+/// Runs of a short part over a layout of two by two.
+fn small_layouts() -> String {
+    filled("U60\nM8\nV60\nG98X1.Y1.I1.J1.P1K1\n", "G75W60Q1\n")
+}
+
+/// A pattern of one hit, recalled until the list is full.
+fn recalls() -> String {
+    let lines = "B1\n".repeat(USUAL / 4 - 1);
+    format!("{G92}G70X100.Y100.T2\nA1G26I10.J45.K1\n{lines}{G50}")
+}
+
+/// Lines of one hit, there and back until the list is full.
+fn short_lines() -> String {
+    let lines = "G28I10.J45.K1\nG28I-10.J45.K1\n".repeat(USUAL / 8);
+    format!("{G92}G70X100.Y100.T2\n{lines}{G50}")
 }
 
 fn copies() -> String {
-    format!("{G92}G98 X5. Y5. I9. J9. P63 K63\nU1\nX1. Y1. T2\nV1\nG75 W1 Q4\nG50\n")
+    format!("{G92}G98 X5. Y5. I9. J9. P63 K63\nU1\nX1. Y1. T2\nV1\nG75 W1 Q4\n{G50}")
 }
 
-/// Runs of a part without blocks.
-fn empty_part(part: &str) -> String {
-    let runs = "G75W60Q4\n".repeat(400);
-    format!("{G92}U60\n{part}\nV60\nG98X1.Y1.I1.J1.P99K99\n{runs}G50\n")
+/// So many runs of a part without blocks.
+fn empty_part(part: &str, count: usize) -> String {
+    let runs = "G75W60Q4\n".repeat(count);
+    format!("{G92}U60\n{part}\nV60\nG98X1.Y1.I1.J1.P99K99\n{runs}{G50}")
 }
 
 /// Runs of a part of one block, 50,000 times in all.
 fn one_block(before: &str, within: &str) -> String {
     let runs = "G76W60Q2\n".repeat(5);
-    format!("{G92}U60\n{before}G70X2.5{within}Y1.\nV60\nG98X1.Y1.I1.J1.P99K99\n{runs}G50\n")
+    format!("{G92}U60\n{before}G70X2.5{within}Y1.\nV60\nG98X1.Y1.I1.J1.P99K99\n{runs}{G50}")
 }
 
 /// Runs of a part of two blocks, 40,000 times in all.
 fn two_blocks() -> String {
     let runs = "G76W60Q3\n".repeat(4);
     let apart = line_feeds(3_000);
-    format!("{G92}U60\nG70X2.5Y1.\n{apart}M8\nV60\nG98X1.Y1.I1.J1.P99K99\n{runs}G50\n")
+    format!("{G92}U60\nG70X2.5Y1.\n{apart}M8\nV60\nG98X1.Y1.I1.J1.P99K99\n{runs}{G50}")
+}
+
+#[cfg(test)]
+mod tests {
+    use super::*;
+    use crate::pair::Pair;
+
+    #[test]
+    fn workloads_are_accepted() {
+        let mut pair = Pair::new(USUAL);
+        for workload in workloads() {
+            let compared = pair.compare(&workload.text, workload.list_length);
+            let answer = compared.unwrap_or_else(|difference| panic!("{}", difference.describe()));
+            assert_eq!(answer.number, 0, "{}", workload.name);
+        }
+    }
 }

@@ -1,31 +1,37 @@
-//! Measures the proved library against the plain expander, on the same texts in one run.
+//! Measures the proved library against the plain expander, and an older library if there is one, on the same texts.
+//!
+//! `bench [ROUNDS] [WORD]` takes the least of so many rounds, and only texts whose names have the word in them.
 
+use std::env;
 use std::hint::black_box;
 use std::process::ExitCode;
 use std::time::Duration;
 
 use compare::clock::thread_time;
-use compare::pair::{library, plain, Answer, Pair};
+use compare::libraries::NEW_AND_OLD;
+use compare::pair::{Answer, Difference, Expander, Pair, LIBRARY, PLAIN};
 use compare::workloads::{workloads, Workload};
 
 /// The numbers of the longest list.
 const LONGEST_LIST: usize = 16_384;
 
-/// How long one timing lasts at least, and how many there are of each.
+/// How long one timing lasts at least, and how many there are of each if nothing is said.
 const SHORTEST: Duration = Duration::from_millis(1);
-const ROUNDS: usize = 31;
-
-type Expand = fn(&[u8], &mut [i32]) -> Answer;
+const USUAL_ROUNDS: usize = 31;
 
 fn main() -> ExitCode {
-    println!("Processor time of one call, the least of {ROUNDS} rounds; ratio is library to plain.");
-    println!("The list is not cleared by the caller; clearing it is part of each call.");
-    println!();
-    print_row(["text", "list", "answer", "library ns", "plain ns", "ratio"]);
+    let (rounds, word) = arguments();
+    let mut workloads = workloads();
+    workloads.retain(|workload| workload.name.contains(&word));
+    if workloads.is_empty() {
+        println!("no text has {word:?} in its name");
+        return ExitCode::FAILURE;
+    }
+    print_head(rounds);
     let mut pair = Pair::new(LONGEST_LIST);
-    for workload in workloads() {
-        match pair.compare(&workload.text, workload.list_length) {
-            Ok(answer) => measure(&workload, answer),
+    for workload in workloads {
+        match check(&mut pair, &workload) {
+            Ok(answer) => print_times(&workload, answer, &measure(&workload, rounds)),
             Err(difference) => {
                 println!("{}\n{}", workload.name, difference.describe());
                 return ExitCode::FAILURE;
@@ -35,29 +41,78 @@ fn main() -> ExitCode {
     ExitCode::SUCCESS
 }
 
-fn print_row(cells: [&str; 6]) {
-    let [text, list, answer, library, plain, ratio] = cells;
-    println!("{text:<39} | {list:>6} | {answer:>10} | {library:>10} | {plain:>10} | {ratio:>6}");
+/// The rounds and the word; a whole number is the one, anything else the other.
+fn arguments() -> (usize, String) {
+    let (mut rounds, mut word) = (USUAL_ROUNDS, String::new());
+    for argument in env::args().skip(1) {
+        match argument.parse() {
+            Ok(number) => rounds = number,
+            Err(_) => word = argument,
+        }
+    }
+    (rounds.max(1), word)
 }
 
-/// Measures both expanders in turn and prints a row.
-fn measure(workload: &Workload, answer: Answer) {
+/// The expanders to measure: the library, the plain one, and the older library if there is one.
+fn expanders() -> Vec<Expander> {
+    match NEW_AND_OLD {
+        None => vec![LIBRARY, PLAIN],
+        Some([new, old]) => vec![new, PLAIN, old],
+    }
+}
+
+/// The answer to a text, if all expanders give the same.
+fn check(pair: &mut Pair, workload: &Workload) -> Result<Answer, Difference> {
+    for other in NEW_AND_OLD.into_iter().flatten() {
+        pair.compare_with(other, &workload.text, workload.list_length)?;
+    }
+    pair.compare(&workload.text, workload.list_length)
+}
+
+/// Measures all expanders in turn and gives the least nanoseconds of each.
+fn measure(workload: &Workload, rounds: usize) -> Vec<f64> {
     let mut list = vec![0; workload.list_length];
-    let mut timings = [library, plain].map(|expand| Timing::new(expand, &workload.text, &mut list));
-    for _ in 0..ROUNDS {
+    let new_timing = |expander| Timing::new(expander, &workload.text, &mut list);
+    let mut timings: Vec<_> = expanders().into_iter().map(new_timing).collect();
+    for _ in 0..rounds {
         for timing in &mut timings {
             timing.repeat(&workload.text, &mut list);
         }
     }
-    let [library, plain] = timings.map(|timing| timing.least);
-    print_row([
-        workload.name,
-        &workload.list_length.to_string(),
-        &describe(answer),
-        &format!("{library:.0}"),
-        &format!("{plain:.0}"),
-        &format!("{:.2}", library / plain),
-    ]);
+    timings.iter().map(|timing| timing.least).collect()
+}
+
+fn print_head(rounds: usize) {
+    println!("Processor time of one call, the least of {rounds} rounds; ratio is library to plain.");
+    println!("The list is not cleared by the caller; clearing it is part of each call.");
+    println!();
+    let mut cells = ["list", "answer", "library ns", "plain ns", "ratio"]
+        .map(String::from)
+        .to_vec();
+    if NEW_AND_OLD.is_some() {
+        cells.extend(["old ns", "new / old"].map(String::from));
+    }
+    print_row("text", &cells);
+}
+
+/// Prints a row with the times of all expanders.
+fn print_times(workload: &Workload, answer: Answer, times: &[f64]) {
+    let mut cells = vec![workload.list_length.to_string(), describe(answer)];
+    let nanoseconds = |time: f64| format!("{time:.0}");
+    let ratio = |other: f64| format!("{:.2}", times[0] / other);
+    cells.extend([nanoseconds(times[0]), nanoseconds(times[1]), ratio(times[1])]);
+    if let Some(&old) = times.get(2) {
+        cells.extend([nanoseconds(old), ratio(old)]);
+    }
+    print_row(workload.name, &cells);
+}
+
+fn print_row(text: &str, cells: &[String]) {
+    print!("{text:<39}");
+    for (cell, width) in cells.iter().zip([6, 10, 10, 10, 6, 10, 9]) {
+        print!(" | {cell:>width$}");
+    }
+    println!();
 }
 
 fn describe(answer: Answer) -> String {
@@ -69,7 +124,7 @@ fn describe(answer: Answer) -> String {
 
 /// The timings of an expander on a text.
 struct Timing {
-    expand: Expand,
+    expander: Expander,
     /// How many calls make a timing long enough.
     calls: u32,
     /// The least nanoseconds of one call.
@@ -77,27 +132,28 @@ struct Timing {
 }
 
 impl Timing {
-    fn new(expand: Expand, text: &[u8], list: &mut [i32]) -> Timing {
+    fn new(expander: Expander, text: &[u8], list: &mut [i32]) -> Timing {
         let mut calls = 1;
-        while time(expand, text, list, calls) < SHORTEST {
+        while time(expander, text, list, calls) < SHORTEST {
             calls *= 2;
         }
         Timing {
-            expand,
+            expander,
             calls,
             least: f64::INFINITY,
         }
     }
 
     fn repeat(&mut self, text: &[u8], list: &mut [i32]) {
-        let taken = time(self.expand, text, list, self.calls);
+        let taken = time(self.expander, text, list, self.calls);
         let of_one = taken.as_nanos() as f64 / f64::from(self.calls);
         self.least = self.least.min(of_one);
     }
 }
 
 /// The processor time that so many calls take.
-fn time(expand: Expand, text: &[u8], list: &mut [i32], calls: u32) -> Duration {
+fn time(expander: Expander, text: &[u8], list: &mut [i32], calls: u32) -> Duration {
+    let expand = expander.expand;
     let start = thread_time();
     for _ in 0..calls {
         black_box(expand(black_box(text), black_box(&mut *list)));
