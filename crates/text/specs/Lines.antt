@@ -14,6 +14,7 @@ countUntil test (b ∷ bs) = elim (test b) [ true ↦ 0 | false ↦ suc (countUn
 abbrev pub isFeed : ℕ → Bool
 isFeed b = eqb b lineFeed
 
+-- a byte other than a line feed
 abbrev pub isOther : ℕ → Bool
 isOther b = not (isFeed b)
 
