@@ -1,5 +1,5 @@
 -- Laws of judging a line, from its words in two lists and a tally.
-use mathlib.Core.Path.{_≡_, sym, ap, _∙_}
+use mathlib.Core.Path.{_≡_, refl, sym, ap, ap₂, _∙_}
 use mathlib.Core.Bool.{Bool, true, false}
 use mathlib.Core.List.{List}
 use mathlib.Core.Option.{Option, none, some}
@@ -39,7 +39,7 @@ judged-of w k m e = go (isListed w (kindOf w)) (isRanged w (kindOf w)) refl refl
         let j : Judged.Of (kindOf w) (measureOf w) ≡ Judged.Of k m = sym (simp (p, q)) ∙ e in
         let a : kindOf w ≡ k = cc in
         let b : measureOf w ≡ m = cc in
-        record { ranged = rw (sym a) q; decodes = simp (p, q, b, a) }
+        record { ranged = rw (sym a) q; decodes = simp (p, q) (ap₂ (λ (m : Measure) (k : Kind). passes (record { measure = m; block = blockOf w k })) b a) }
     go true false p q = let j : Judged.Refused 6 ≡ Judged.Of k m = sym (simp (p, q)) ∙ e in let z : _≡_ {A = ℕ} 0 1 = cc in absurd (omega arith)
     go false r p q = let j : Judged.Refused 5 ≡ Judged.Of k m = sym (simp p) ∙ e in let z : _≡_ {A = ℕ} 0 1 = cc in absurd (omega arith)
 
