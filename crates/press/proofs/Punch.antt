@@ -41,6 +41,18 @@ hit-fits f p tool hits q e =
     go true false c r h = let z : _≡_ {A = ℕ} 0 1 = cc in absurd (omega arith)
     go false n c r h = let z : _≡_ {A = ℕ} 0 1 = cc in absurd (omega arith)
 
+-- and any other has a refusal's number
+pub refusal-positive : (f : Frame) (p : Point) (tool hits number : ℕ) → Refused number ≡ judgedHit f p tool hits → 0 < number
+unfolding judgedHit
+refusal-positive f p tool hits number e = go (ltb 0 tool) (near p) (inRange f p) (ltb hits (f .job .places)) e
+  where
+    go : (t n c r : Bool) → Refused number ≡ chosen p t n c r → 0 < number
+    go true true true true h = let z : _≡_ {A = ℕ} 0 1 = cc in omega arith
+    go true true true false h = let z : number ≡ 17 = cc in omega arith
+    go true true false r h = let z : number ≡ 16 = cc in omega arith
+    go true false c r h = let z : number ≡ 15 = cc in omega arith
+    go false n c r h = let z : number ≡ 14 = cc in omega arith
+
 -- ---- `punch` by what is judged
 
 abbrev byJudged : Judged → ℕ → Progress → Out (Hits.Made Progress)
