@@ -8,14 +8,14 @@ use native.Mathlib.Nat.{pow-suc, pow-le-pow-right, lt-of-lt-of-le}
 use native.Mathlib.Omega.{arith}
 use native.Mathlib.Numerals.{add-one}
 use lib.Dec.{eqb, ltb, lit≤, lit<}
-use lib.ListN.{length, drop, getD, drop-of-length-le, length-drop}
+use lib.ListN.{length, drop, getD, drop-of-length-le}
 use lib.Seq.{drop-cons}
 use borrow.Author.Tests.{ltb-true, ltb-false, eqb-true}
 use Rattle.aries.specs.Text.{isDigit}
 use Rattle.aries.specs.Test.{pick}
-use Rattle.aries.specs.Words.{Digits, digits}
-use Rattle.words.specs.Reading.{Held, held}
-use Rattle.words.proofs.Bytes.{digit-high, digit-inside}
+use Rattle.aries.specs.Words.{Digits, digits, hundredths}
+use Rattle.words.specs.Reading.{Held, held, meant}
+use Rattle.words.proofs.Bytes.{test-inside, digit-high}
 
 -- ---- one step
 
@@ -68,7 +68,7 @@ module _ (bs : List ℕ) (value count i : ℕ) where
       ≡ digits (most - (count + 1)) (value * 10 + (getD bs i 0 - 48)) (count + 1) (drop (i + 1) bs)
   digits-more most e h =
       let n : most - count ≡ suc (most - (count + 1)) = omega arith in
-      rw (n, drop-cons bs i 0 (digit-inside bs i e), add-one count, add-one i)
+      rw (n, drop-cons bs i 0 (test-inside isDigit bs i refl e), add-one count, add-one i)
       (digits-cons-more (most - suc count) value count (getD bs i 0) (drop (suc i) bs) e)
 
 -- ---- bounds
@@ -113,28 +113,18 @@ digits-bounded (suc most) value count (b ∷ bs) h =
         rw (digits-cons-stop (suc most) value count b bs e)
         (record { few = omega arith; inside = omega arith; small = h })
 
--- what holds of the digits that the code read at a place
-pub record Few (most from : ℕ) (bytes : List ℕ) (d : Held) : Type 0 where
-  pub few : d .count ≤ most
-  pub inside : from + d .count ≤ length bytes
-  pub small : d .value < 10 ^ d .count
-
-pub held-few :
-    (most from : ℕ) (bytes : List ℕ) (d : Held) → from ≤ length bytes → d ≡ held (digits most 0 0 (drop from bytes))
-    → Few most from bytes d
-held-few most from bytes d h e =
-    let b = digits-bounded most 0 0 (drop from bytes) (lit< tt) in
-    let l : length (drop from bytes) ≡ length bytes - from = length-drop from bytes in
-    rw e (record { few = omega arith; inside = omega arith; small = b .small })
+-- the same of digits that the code read
+pub held-bounded : (most : ℕ) (bs : List ℕ) (d : Held) → d ≡ held (digits most 0 0 bs) → Bounded most 0 bs (meant d)
+held-bounded most bs d e = rw e (digits-bounded most 0 0 bs (lit< tt))
 
 -- hundredths of a number with a point stay below 10^6
 pub hundredths-small :
-    (whole : ℕ) (decimals : Held) → whole < 10000 → decimals .value < 10 ^ decimals .count → decimals .count ≤ 2
-    → whole * 100 + decimals .value * pick (eqb (decimals .count) 1) 10 1 < 1000000
+    (whole decimals : Digits) → whole .value < 10000 → decimals .value < 10 ^ decimals .count → decimals .count ≤ 2
+    → hundredths whole decimals < 1000000
 hundredths-small whole decimals h s k = go (eqb (decimals .count) 1) refl
   where
     go :
-        (t : Bool) → eqb (decimals .count) 1 ≡ t → whole * 100 + decimals .value * pick t 10 1 < 1000000
+        (t : Bool) → eqb (decimals .count) 1 ≡ t → whole .value * 100 + decimals .value * pick t 10 1 < 1000000
     go true e =
         let one : decimals .count ≡ 1 = eqb-true (decimals .count) 1 e in
         let d : decimals .value < 10 ^ 1 = below-power (decimals .value) (decimals .count) 1 s (omega arith) in

@@ -1,6 +1,6 @@
 -- The invariant: the value has as many digits as are counted, and the digits from here on, after those, are those from
 -- the start. Assumes nothing.
-use mathlib.Core.Path.{_≡_, sym, ap, _∙_}
+use mathlib.Core.Path.{_≡_, refl, sym, ap, _∙_}
 use mathlib.Core.Bool.{true, false}
 use Prim.Native.Nat.{ℕ, _+_, _-_, _^_, _≤_, _<_}
 use native.Mathlib.Nat.{sub-zero, add-zero}
@@ -12,7 +12,7 @@ use lib.ListN.{length, drop, getD}
 use Rattle.aries.specs.Text.{isDigit}
 use Rattle.aries.specs.Words.{digits}
 use Rattle.words.specs.Reading.{held}
-use Rattle.words.proofs.Bytes.{digit-low, digit-high, digit-inside}
+use Rattle.words.proofs.Bytes.{test-inside, digit-low, digit-high}
 use Rattle.words.proofs.Numerals.{digits-full, digits-stop, digits-more, one-more, below-power}
 use Rattle.words.proofs.read_digits.Statement.{statement}
 use Rattle.words.proofs.read_digits.Tie as tie
@@ -95,7 +95,7 @@ loop-again c =
     let i = a .from + w .count in
     let next : a .from + (w .count + 1) ≡ i + 1 = omega arith in (
       omega arith,
-      omega (arith, digit-inside (a .text .now) i (digit c)),
+      omega (arith, test-inside isDigit (a .text .now) i refl (digit c)),
       one-more (w .value) (c .before .before .byte-at .result - 48) (w .count) (w .inv .2) (omega (arith, high c)),
       rw (next, c .before .before .byte-at .ensures)
           (sym (digits-more (a .text .now) (w .value) (w .count) i (a .most) (digit c) (omega arith)) ∙ w .inv .3),
