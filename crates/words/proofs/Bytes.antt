@@ -1,9 +1,9 @@
 -- Laws of the bytes of a text: what passes a test does not stand past the end, and bounds of a digit and a capital.
 -- Assumes nothing.
-use mathlib.Core.Path.{_≡_, refl, ap}
+use mathlib.Core.Path.{_≡_, refl, ap, _∙_}
 use mathlib.Core.Bool.{Bool, true, false}
 use mathlib.Core.List.{List}
-use Prim.Native.Nat.{ℕ, _≤_, _<_}
+use Prim.Native.Nat.{ℕ, _+_, _≤_, _<_}
 use native.Mathlib.Omega.{arith}
 use lib.Dec.{leb, ltb}
 use lib.ListN.{length, getD, List·getD-eq-default}
@@ -11,7 +11,7 @@ use borrow.Author.Tests.{leb-true, ltb-true, ltb-false}
 use Rattle.signed.proofs.Tests.{both-left, both-right}
 use Rattle.aries.specs.Test.{pick}
 use Rattle.aries.specs.Text.{isCapital, isDigit}
-use Rattle.aries.specs.Words.{isSign, frontSize}
+use Rattle.aries.specs.Words.{isSign}
 
 -- past the end the byte is 0
 pub test-inside : (f : ℕ → Bool) (bs : List ℕ) (i : ℕ) → f 0 ≡ false → f (getD bs i 0) ≡ true → i < length bs
@@ -24,17 +24,19 @@ test-inside f bs i z e = go (ltb i (length bs)) refl
         let n : _≡_ {A = ℕ} 0 1 = cc in
         absurd (omega arith)
 
--- the letter, and the sign if there is one, lie within the bytes
-pub front-inside : (bs : List ℕ) → isCapital (getD bs 0 0) ≡ true → frontSize bs ≤ length bs
-front-inside bs c = go (isSign (getD bs 1 0)) refl
+-- a letter, and the sign if there is one, lie within the text
+pub front-inside :
+    (t : List ℕ) (at front : ℕ) → isCapital (getD t at 0) ≡ true → front ≡ pick (isSign (getD t (at + 1) 0)) 2 1
+    → at + front ≤ length t
+front-inside t at front c f = go (isSign (getD t (at + 1) 0)) refl
   where
-    go : (t : Bool) → isSign (getD bs 1 0) ≡ t → frontSize bs ≤ length bs
+    go : (s : Bool) → isSign (getD t (at + 1) 0) ≡ s → at + front ≤ length t
     go true e =
-        let two : frontSize bs ≡ 2 = ap (λ (t : Bool). pick t 2 1) e in
-        omega (arith, test-inside isSign bs 1 refl e)
+        let two : front ≡ 2 = f ∙ ap (λ (s : Bool). pick s 2 1) e in
+        omega (arith, test-inside isSign t (at + 1) refl e)
     go false e =
-        let one : frontSize bs ≡ 1 = ap (λ (t : Bool). pick t 2 1) e in
-        omega (arith, test-inside isCapital bs 0 refl c)
+        let one : front ≡ 1 = f ∙ ap (λ (s : Bool). pick s 2 1) e in
+        omega (arith, test-inside isCapital t at refl c)
 
 module _ (b : ℕ) (d : isDigit b ≡ true) where
   pub digit-low : 48 ≤ b

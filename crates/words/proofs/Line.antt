@@ -144,7 +144,7 @@ line-word bs = go (isCapital (getD bs 0 0)) refl
     go true e =
         let h : 0 < lineLength bs = omega (arith, test-inside isCapital line 0 refl (same ∙ e), line-length bs) in
         let f : frontSize line ≡ frontSize bs = line-byte (λ (b : ℕ). pick (isSign b) 2 1) bs 1 refl (omega arith) in
-        let k : frontSize bs ≤ lineLength bs = omega (arith, f, front-inside line (same ∙ e), line-length bs) in
+        let k : frontSize bs ≤ lineLength bs = omega (arith, f, front-inside line 0 (frontSize line) (same ∙ e) refl, line-length bs) in
         word-number line
         ∙ rw (getD-take (lineLength bs) bs 0 0 h)
         (line-byte (λ (b : ℕ). readOf (getD bs 0 0) b (pick (isSign b) 2 1) (number (drop (pick (isSign b) 2 1) line))) bs 1 refl (omega arith))

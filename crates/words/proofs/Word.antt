@@ -183,7 +183,7 @@ module _ (bs : List ℕ) (r : Read) (e : word bs ≡ some r) where
           (record {
             capital = c;
             some-bytes = omega arith;
-            inside = omega (arith, s .inside, front-inside bs c, length-drop (frontSize bs) bs);
+            inside = omega (arith, s .inside, front-inside bs 0 (frontSize bs) c refl, length-drop (frontSize bs) bs);
             small = rw (abs-withSign (eqb (getD bs 1 0) minus) (n .value)) (omega (arith, s .small));
             written = refl;
           })
@@ -203,16 +203,16 @@ module _ (t : List ℕ) (at : ℕ) where
   -- a letter, and then a number or none
   pub reading-some :
       (letter sign front : ℕ) (n : Number) → letter ≡ getD t at 0 → sign ≡ getD t (at + 1) 0
-      → n ≡ number (drop (at + front) t) → isCapital letter ≡ true → front ≡ pick (isSign sign) 2 1
+      → n ≡ number (drop (at + front) t) → isCapital (getD t at 0) ≡ true
+      → front ≡ pick (isSign (getD t (at + 1) 0)) 2 1
       → readingOf letter sign (at + front) n ≡ readingAt at (word (drop at t))
-  reading-some letter sign front n l s m c f =
-      rw (word-at front (f ∙ ap (λ (b : ℕ). pick (isSign b) 2 1) s), ← l, ← s, ← m) (go (leb 1 (n .size)) refl)
+  reading-some letter sign front n l s m c f = rw (word-at front f, ← l, ← s, ← m) (go (leb 1 (n .size)) refl)
     where
       go :
           (b : Bool) → leb 1 (n .size) ≡ b
           → readingOf letter sign (at + front) n ≡ readingAt at (readOf letter sign front n)
-      go true e = simp (c, e, add-assoc)
-      go false e = simp (c, e)
+      go true e = simp (ap isCapital l ∙ c, e, add-assoc)
+      go false e = simp (ap isCapital l ∙ c, e)
 
 -- ---- what an answer says of the word
 

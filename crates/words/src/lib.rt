@@ -200,6 +200,13 @@ fn make_reading(letter: u8, sign: u8, from: usize, number: Number) -> Reading
     }
 }
 
+// How many bytes stand before the number: the letter, and the sign if the byte after it is one.
+fn front_size(sign: u8) -> usize
+    ensures { λ r. ⌜ r ≡ pick (isSign sign) 2 1 ⌝ }
+{
+    if is_sign(sign) { 2 } else { 1 }
+}
+
 // The word at a place.
 fn read_word(text: &[u8], at: usize) -> Reading
     ensures { λ r. ⌜ r ≡ readingAt at (word (drop at (now (text .entry)))) ⌝ }
@@ -209,10 +216,8 @@ fn read_word(text: &[u8], at: usize) -> Reading
         return no_reading();
     }
     let sign = byte_at(text, at + 1);
-    if is_sign(sign) {
-        return make_reading(letter, sign, at + 2, read_number(text, at + 2));
-    }
-    make_reading(letter, sign, at + 1, read_number(text, at + 1))
+    let from = at + front_size(sign);
+    make_reading(letter, sign, from, read_number(text, from))
 }
 
 // Whether a word with a form has neither sign nor point.
