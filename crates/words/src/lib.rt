@@ -66,7 +66,7 @@ fn is_line_end(text: &[u8], at: usize) -> bool
 fn is_within(low: u8, high: u8, b: u8) -> bool
     ensures { λ r. ⌜ r ≡ within low high b ⌝ }
 {
-    if low <= b { b <= high } else { false }
+    (low <= b) & (b <= high)
 }
 
 // One of 0 to 9.
@@ -87,7 +87,7 @@ fn is_capital(b: u8) -> bool
 fn is_sign(b: u8) -> bool
     ensures { λ r. ⌜ r ≡ isSign b ⌝ }
 {
-    if b == b'+' { true } else { b == b'-' }
+    (b == b'+') | (b == b'-')
 }
 
 // The digits at a place, at most so many.
@@ -301,10 +301,11 @@ fn with_number(mut tally: Tally) -> Tally
 fn is_late(letter: u8, coded: bool, code: u32) -> bool
     ensures { λ r. ⌜ r ≡ both (eqb letter letterA) (both coded (isPatternCode code)) ⌝ }
 {
-    if letter != b'A' {
-        return false;
+    if letter == b'A' {
+        coded & is_pattern_code(code)
+    } else {
+        false
     }
-    if coded { is_pattern_code(code) } else { false }
 }
 
 // The tally with a letter other than G; before: it stands in the block already.
