@@ -19,7 +19,7 @@ use Rattle.words.specs.declared.Number.{Number}
 use Rattle.words.specs.Gathering.{firstLine}
 use Rattle.words.specs.Reading.{numberOf, number}
 use Rattle.words.proofs.Bytes.{test-inside, front-inside}
-use Rattle.words.proofs.Numerals.{digits-cons-stop, digits-cons-more, digits-bounded}
+use Rattle.words.proofs.Numerals.{digits-stop, digits-more, digits-bounded}
 use Rattle.words.proofs.Word.{readOf, word-number}
 
 -- it has as many bytes as stand before the line feed
@@ -85,14 +85,14 @@ line-digits (suc n) value count (b ∷ bs) =
         → digits (suc n) value count (firstLine (b ∷ bs)) ≡ digits (suc n) value count (b ∷ bs)
     go true d e g rest =
         let z : lineLength (b ∷ bs) ≡ 0 = rw (e, lineLength) in
-        rw z (sym (digits-cons-stop (suc n) value count b bs (ap isDigit (eqb-true b lineFeed e))))
+        rw z (sym (digits-stop (suc n) value count (b ∷ bs) (ap isDigit (eqb-true b lineFeed e))))
     go false true e g rest =
         let z : lineLength (b ∷ bs) ≡ suc (lineLength bs) = rw (e, lineLength) in
-        rw z (digits-cons-more n value count b (firstLine bs) g ∙ rest ∙ sym (digits-cons-more n value count b bs g))
+        rw z (digits-more n value count (b ∷ firstLine bs) g ∙ rest ∙ sym (digits-more n value count (b ∷ bs) g))
     go false false e g rest =
         let z : lineLength (b ∷ bs) ≡ suc (lineLength bs) = rw (e, lineLength) in
         rw z
-        (digits-cons-stop (suc n) value count b (firstLine bs) g ∙ sym (digits-cons-stop (suc n) value count b bs g))
+        (digits-stop (suc n) value count (b ∷ firstLine bs) g ∙ sym (digits-stop (suc n) value count (b ∷ bs) g))
 
 -- ---- the number and the word at the front
 

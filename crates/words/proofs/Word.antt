@@ -13,7 +13,7 @@ use lib.IntN.{natAbs}
 use lib.ListN.{length, getD, drop, length-drop}
 use lib.Seq.{getD-drop, drop-drop}
 use borrow.Author.Tests.{le-leb, leb-true, eqb-true}
-use Rattle.aries.specs.Test.{both, pick}
+use Rattle.aries.specs.Test.{both, within, pick}
 use Rattle.aries.specs.Text.{isCapital}
 use Rattle.aries.specs.Words.{Digits, Read, digits, isSign, minus, point, hundredths, frontSize, wordOf, word}
 use Rattle.signed.proofs.Integers.{abs-withSign}
@@ -57,7 +57,7 @@ module _ (bs : List ℕ) where
   number-is = refl
 
   pub number-small : Small bs (number bs)
-  number-small = go (leb 1 (whole .count)) (eqb stop point) (leb (whole .count) 4) refl refl refl
+  number-small = go (eqb stop point) (within 1 4 (whole .count)) refl refl
     where
       w : Bounded 6 0 bs whole
       w = digits-bounded 6 0 0 bs (lit< tt)
@@ -68,28 +68,21 @@ module _ (bs : List ℕ) where
       known : (n : Number) → number bs ≡ n → n .size ≤ length bs → n .value < 1000000 → Small bs (number bs)
       known n e h v = rw e (record { inside = h; small = v })
 
-      go :
-          (s t u : Bool) → leb 1 (whole .count) ≡ s → eqb stop point ≡ t → leb (whole .count) 4 ≡ u
-          → Small bs (number bs)
-      go false t u e f g = known noNumber (number-is ∙ simp e) (omega arith) (lit< tt)
-      go true false u e f g =
-          known (record { value = whole .value; pointed = false; size = whole .count }) (number-is ∙ simp (e, f))
+      go : (s t : Bool) → eqb stop point ≡ s → within 1 4 (whole .count) ≡ t → Small bs (number bs)
+      go false t e f =
+          known (record { value = whole .value; pointed = false; size = whole .count }) (number-is ∙ simp e)
           (omega (arith, w .inside))
           (below-power (whole .value) (whole .count) 6 (w .small) (omega (arith, w .few)))
-      go true true false e f g = known noNumber (number-is ∙ simp (e, f, g)) (omega arith) (lit< tt)
-      go true true true e f g =
+      go true false e f = known noNumber (number-is ∙ simp (e, f)) (omega arith) (lit< tt)
+      go true true e f =
+          let h : whole .count < length bs = test-inside (λ (b : ℕ). eqb b point) bs (whole .count) refl e in
+          let k : whole .count ≤ 4 =
+          leb-true (whole .count) 4 (both-right (leb 1 (whole .count)) (leb (whole .count) 4) f) in
           known
           (record { value = hundredths whole decimals; pointed = true; size = whole .count + 1 + decimals .count })
-          (number-is ∙ simp (e, f, g))
-          (omega (
-            arith,
-            test-inside (λ (b : ℕ). eqb b point) bs (whole .count) refl f,
-            d .inside,
-            length-drop (whole .count + 1) bs,
-          ))
-          (hundredths-small whole decimals
-          (below-power (whole .value) (whole .count) 4 (w .small) (leb-true (whole .count) 4 g))
-          (d .small)
+          (number-is ∙ simp (e, f))
+          (omega (arith, d .inside, length-drop (whole .count + 1) bs))
+          (hundredths-small whole decimals (below-power (whole .value) (whole .count) 4 (w .small) k) (d .small)
           (omega (arith, d .few)))
 
 -- a number at a place of a text
@@ -129,16 +122,18 @@ module _ (bs : List ℕ) where
 
   by-parts : word bs ≡ readOf (getD bs 0 0) (getD bs 1 0) front (numberOf first behind second)
   unfolding word
-  by-parts = go (leb 1 (first .count)) (eqb behind point) (leb (first .count) 4) refl refl refl
+  by-parts = go (eqb behind point) (leb 1 (first .count)) (leb (first .count) 4) refl refl refl
     where
       go :
-          (p q r : Bool) → leb 1 (first .count) ≡ p → eqb behind point ≡ q → leb (first .count) 4 ≡ r
+          (q p r : Bool) → eqb behind point ≡ q → leb 1 (first .count) ≡ p → leb (first .count) 4 ≡ r
           → word bs ≡ readOf (getD bs 0 0) (getD bs 1 0) front (numberOf first behind second)
-      go false q r e g h = simp (e, both-false)
-      go true false r e g h = simp (e, g)
-      go true true false e g h = simp (e, g, h, both-false) (pick-same (both (isCapital (getD bs 0 0)) true) none)
-      go true true true e g h =
-          let k : leb 1 (first .count + 1 + second .count) ≡ true = le-leb 1 (first .count + 1 + second .count) (omega arith) in
+      go false p r g e h = simp g
+      go true false r g e h = simp (e, g, both-false)
+      go true true false g e h =
+          simp (e, g, h, both-false) (pick-same (both (isCapital (getD bs 0 0)) true) none)
+      go true true true g e h =
+          let k : leb 1 (first .count + 1 + second .count) ≡ true =
+          le-leb 1 (first .count + 1 + second .count) (omega arith) in
           simp (e, g, h, k) (simp add-assoc)
 
   pub word-number : word bs ≡ readOf (getD bs 0 0) (getD bs 1 0) (frontSize bs) (number (drop (frontSize bs) bs))

@@ -7,7 +7,7 @@ use lib.Dec.{leb, eqb}
 use lib.IntN.{pos}
 use lib.ListN.{getD, drop}
 use Rattle.signed.specs.Signed.{withSign}
-use Rattle.aries.specs.Test.{pick}
+use Rattle.aries.specs.Test.{within, pick}
 use Rattle.aries.specs.Words.{Digits, Read, digits, isSign, minus, point, hundredths}
 use Rattle.words.specs.declared.Digits as code
 use Rattle.words.specs.declared.Number.{Number}
@@ -27,16 +27,14 @@ meant d = record { value = d .value; count = d .count }
 abbrev pub noNumber : Number
 noNumber = record { value = 0; pointed = false; size = 0 }
 
--- a number from its digits, the byte behind them, and the digits behind that
+-- a number from its digits, the byte behind them, and the digits behind that; one that takes no bytes is none
 abbrev pub numberOf : Digits → ℕ → Digits → Number
 numberOf whole stop decimals =
-    pick (leb 1 (whole .count))
-    (pick (eqb stop point)
-    (pick (leb (whole .count) 4)
+    pick (eqb stop point)
+    (pick (within 1 4 (whole .count))
     (record { value = hundredths whole decimals; pointed = true; size = whole .count + 1 + decimals .count })
     noNumber)
-    (record { value = whole .value; pointed = false; size = whole .count }))
-    noNumber
+    (record { value = whole .value; pointed = false; size = whole .count })
 
 -- the number at the front: 1 to 6 digits, or 1 to 4 digits, a point and 0 to 2 digits
 unfoldable pub number : List ℕ → Number

@@ -136,9 +136,6 @@ fn read_number(text: &[u8], from: usize) -> Number
     ensures { λ r. ⌜ r ≡ number (drop from (now (text .entry))) ⌝ }
 {
     let whole = read_digits(text, from, 6);
-    if whole.count == 0 {
-        return no_number();
-    }
     let end = from + whole.count;
     if byte_at(text, end) != b'.' {
         return Number {
@@ -147,7 +144,7 @@ fn read_number(text: &[u8], from: usize) -> Number
             size: whole.count,
         };
     }
-    if 4 < whole.count {
+    if !((1 <= whole.count) & (whole.count <= 4)) {
         return no_number();
     }
     let decimals = read_digits(text, end + 1, 2);

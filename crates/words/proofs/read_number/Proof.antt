@@ -5,10 +5,12 @@ use mathlib.Core.List.{List}
 use Prim.Native.Nat.{ℕ, _+_, _≤_, _<_}
 use native.Mathlib.Omega.{arith}
 use borrow.Author.Needs.{needs}
-use borrow.Author.Tests.{eq-eqb, ne-eqb, le-leb, lt-leb}
-use lib.Dec.{eqb}
+use borrow.Author.Tests.{not-true, not-false, eq-eqb, ne-eqb, leb-true}
+use lib.Dec.{eqb, leb}
 use lib.ListN.{length, getD, drop, length-drop}
+use Rattle.aries.specs.Test.{within}
 use Rattle.aries.specs.Words.{digits, point}
+use Rattle.signed.proofs.Tests.{both-right}
 use Rattle.words.specs.Reading.{Held, meant, numberOf, number}
 use Rattle.words.proofs.Bytes.{test-inside}
 use Rattle.words.proofs.Numerals.{Bounded, held-bounded, below-power}
@@ -16,7 +18,7 @@ use Rattle.words.proofs.Word.{number-at}
 use Rattle.words.proofs.read_number.Statement.{statement}
 use Rattle.words.proofs.read_number.Tie as tie
 
--- ---- once the digits before a point are read
+-- ---- once the first digits are read
 
 module _ (c : tie.After-read-digits) where
   abbrev text : List ℕ
@@ -38,127 +40,100 @@ module _ (c : tie.After-read-digits) where
   parts : number (drop from text) ≡ numberOf (meant whole) (getD text past 0) (digits 2 0 0 (drop (past + 1) text))
   parts = number-at text from (meant whole) (ap meant (c .read-digits .ensures))
 
--- ---- where there are some
-
-module _ (c : tie.After-byte-at) where
-  abbrev first : tie.After-read-digits
-  first = c .before .before .before .before
-
-  some-digits : 0 < whole first .count
-  some-digits = omega (arith, c .before .before .if1 .left)
-
 -- ---- where a point follows them
 
-module _ (c : tie.Else2) where
-  abbrev before-point : tie.After-read-digits
-  before-point = first (c .before)
+module _ (c : tie.Else1) where
+  abbrev first : tie.After-read-digits
+  first = c .before .before .before
 
-  point-here : getD (text before-point) (past before-point) 0 ≡ point
-  point-here = sym (c .before .byte-at .ensures) ∙ c .if2 .left
+  is-point : eqb (getD (text first) (past first) 0) point ≡ true
+  is-point =
+      eq-eqb (getD (text first) (past first) 0) point (sym (c .before .byte-at .ensures) ∙ c .if1 .left)
 
-  is-point : eqb (getD (text before-point) (past before-point) 0) point ≡ true
-  is-point = eq-eqb (getD (text before-point) (past before-point) 0) point point-here
+-- ---- and they are few enough
 
-  point-fits : past before-point < length (text before-point)
-  point-fits = test-inside (λ (b : ℕ). eqb b point) (text before-point) (past before-point) refl is-point
+module _ (c : tie.After-read-digits2) where
+  abbrev pointed : tie.Else1
+  pointed = c .before .before .before .before
+
+  abbrev start : tie.After-read-digits
+  start = first pointed
+
+  short : within 1 4 (whole start .count) ≡ true
+  short = not-false (within 1 4 (whole start .count)) (c .before .if2 .left)
+
+  four : whole start .count ≤ 4
+  four = leb-true (whole start .count) 4 (both-right (leb 1 (whole start .count)) (leb (whole start .count) 4) short)
+
+  two : Bounded 2 0 (drop (past start + 1) (text start)) (meant (c .read-digits2 .result))
+  two = held-bounded 2 (drop (past start + 1) (text start)) (c .read-digits2 .result) (c .read-digits2 .ensures)
 
 -- ---- the needs, in the order of the code
 
 read-digits-requires : tie.Need-read-digits-requires
 read-digits-requires c κs = search needs
 
-no-number-requires : tie.Need-no-number-requires
-no-number-requires c κs = search needs
-
-returns : tie.Need-returns
-returns c =
-    let d = c .before .before .before in
-    rw (parts d) (simp (c .no-number .ensures, lt-leb 1 (whole d .count) (omega (arith, c .before .if1 .taken))))
-
 add-end : tie.Need-add-end
-add-end c =
-    let d = c .before .before .before in
-    omega (arith, few d .inside, length-drop (from d) (text d), c .before .if1 .left)
+add-end c = let d = c .before in omega (arith, few d .inside, length-drop (from d) (text d))
 
 byte-at-requires : tie.Need-byte-at-requires
 byte-at-requires c κs = search needs
 
+returns : tie.Need-returns
+returns c =
+    let b = c .before in
+    let d = b .before .before in
+    let other : getD (text d) (past d) 0 ≡ point → ⊥ = λ p. c .if1 .taken (b .byte-at .ensures ∙ p) in
+    rw (parts d) (simp (ne-eqb (getD (text d) (past d) 0) point other))
+
+no-number-requires : tie.Need-no-number-requires
+no-number-requires c κs = search needs
+
 returns-2 : tie.Need-returns-2
 returns-2 c =
-    let b = c .before in
-    let d = first b in
-    let other : getD (text d) (past d) 0 ≡ point → ⊥ = λ p. c .if2 .taken (b .byte-at .ensures ∙ p) in
-    rw (parts d) (simp (le-leb 1 (whole d .count) (some-digits b), ne-eqb (getD (text d) (past d) 0) point other))
-
-no-number-requires-2 : tie.Need-no-number-requires-2
-no-number-requires-2 c κs = search needs
-
-returns-3 : tie.Need-returns-3
-returns-3 c =
-    let p = c .before .before .before in
-    let d = before-point p in
-    rw (parts d)
-    (simp (
-      c .no-number2 .ensures,
-      le-leb 1 (whole d .count) (some-digits (p .before)),
-      is-point p,
-      lt-leb (whole d .count) 4 (c .before .if3 .taken),
-    ))
+    let p = c .before .before .before .before in
+    rw (parts (first p)) (simp (c .no-number .ensures, is-point p, not-true (within 1 4 (whole (first p) .count)) (c .before .if2 .taken)))
 
 add-read-digits : tie.Need-add-read-digits
-add-read-digits c = omega (arith, point-fits (c .before .before))
+add-read-digits c =
+    let p = c .before .before .before in
+    let d = first p in
+    omega (arith, test-inside (λ (b : ℕ). eqb b point) (text d) (past d) refl (is-point p))
 
 read-digits-requires-2 : tie.Need-read-digits-requires-2
 read-digits-requires-2 c κs = search needs
 
 hundredths-of-requires : tie.Need-hundredths-of-requires
 hundredths-of-requires c κs =
-    let d = before-point (c .before .before .before) in
+    let w = whole (start c) in
     let e = c .read-digits2 .result in
-    let b = held-bounded 2 (drop (past d + 1) (text d)) e (c .read-digits2 .ensures) in (
-      below-power (whole d .value) (whole d .count) 4 (few d .small) (c .before .if3 .left),
-      below-power (e .value) (e .count) 2 (b .small) (b .few),
-    )
+    (below-power (w .value) (w .count) 4 (few (start c) .small) (four c), below-power (e .value) (e .count) 2 (two c .small) (two c .few))
 
-add-t9 : tie.Need-add-t9
-add-t9 c = search needs
+add-t12 : tie.Need-add-t12
+add-t12 c = omega (arith, four (c .before .before))
 
-add-t10 : tie.Need-add-t10
-add-t10 c =
-    let r = c .before .before .before in
-    let d = before-point (r .before .before .before) in
-    omega (arith, held-bounded 2 (drop (past d + 1) (text d)) (r .read-digits2 .result) (r .read-digits2 .ensures) .few, r .before .if3 .left)
+add-t13 : tie.Need-add-t13
+add-t13 c = let r = c .before .before .before in omega (arith, four r, two r .few)
 
-returns-4 : tie.Need-returns-4
-returns-4 c =
+returns-3 : tie.Need-returns-3
+returns-3 c =
     let h = c .before .before in
     let r = h .before in
-    let p = r .before .before .before in
-    let d = before-point p in
-    rw (parts d)
-    (simp (
-      h .hundredths-of .ensures,
-      le-leb 1 (whole d .count) (some-digits (p .before)),
-      is-point p,
-      le-leb (whole d .count) 4 (r .before .if3 .left),
-      r .read-digits2 .ensures,
-    ))
+    rw (parts (start r)) (simp (h .hundredths-of .ensures, is-point (pointed r), short r, r .read-digits2 .ensures))
 
 pub read-number-spec : {M : Type 1} → statement M
 read-number-spec =
     tie.close
     (tie.spec
     read-digits-requires
-    no-number-requires
-    returns
     add-end
     byte-at-requires
+    returns
+    no-number-requires
     returns-2
-    no-number-requires-2
-    returns-3
     add-read-digits
     read-digits-requires-2
     hundredths-of-requires
-    add-t9
-    add-t10
-    returns-4)
+    add-t12
+    add-t13
+    returns-3)
