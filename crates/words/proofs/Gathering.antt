@@ -4,8 +4,7 @@ use mathlib.Core.Path.{_≡_, refl, sym, ap, _∙_, subst}
 use mathlib.Core.Bool.{Bool, true, false}
 use mathlib.Core.List.{List, [], _∷_}
 use mathlib.Core.Option.{Option, none, some}
-use Prim.Native.Nat.{ℕ, zero, suc, _+_, _-_, _≤_, _<_}
-use native.Mathlib.Nat.{not-suc-le-zero}
+use Prim.Native.Nat.{ℕ, zero, suc, _+_, _-_, _≤_}
 use native.Mathlib.Omega.{arith}
 use lib.Dec.{eqb}
 use lib.IntN.{ℤ}
@@ -27,12 +26,6 @@ use Rattle.words.proofs.Line.{line-length, line-drop, line-word}
 word-nil : word [] ≡ none
 unfolding word
 word-nil = refl
-
-gathered-out :
-    (w : Words) (at : ℕ) (bs : List ℕ)
-    → gathered zero w at bs ≡ record { words = w; end = at; formed = eqb (length bs) 0 }
-unfolding gathered
-gathered-out w at bs = refl
 
 gathered-none : (n : ℕ) (w : Words) (at : ℕ) (bs : List ℕ) → word bs ≡ none
     → gathered n w at bs ≡ record { words = w; end = at; formed = eqb (length bs) 0 }
@@ -57,9 +50,9 @@ ifFormed g = pick (g .formed) (some (g .words)) none
 
 -- they are those of the line where no bytes are left
 gathered-gather : (n : ℕ) (w : Words) (at : ℕ) (bs : List ℕ) → gather n w bs ≡ ifFormed (gathered n w at bs)
-unfolding gather
-gathered-gather zero w at [] = ap ifFormed (sym (gathered-out w at []))
-gathered-gather zero w at (b ∷ bs) = rw (gathered-out w at (b ∷ bs), some-left b bs)
+unfolding gather gathered
+gathered-gather zero w at [] = refl
+gathered-gather zero w at (b ∷ bs) = rw (some-left b bs)
 gathered-gather (suc n) w at [] = ap ifFormed (sym (gathered-none (suc n) w at [] word-nil))
 gathered-gather (suc n) w at (b ∷ bs) =
     go (word (b ∷ bs)) refl
@@ -83,7 +76,8 @@ gathered-all :
     → P w at bs g)
     → (n : ℕ) (w : Words) (at : ℕ) (bs : List ℕ)
     → P w at bs (gathered n w at bs)
-gathered-all P stop more zero w at bs = rw (gathered-out w at bs) (stop w at bs)
+unfolding gathered
+gathered-all P stop more zero w at bs = stop w at bs
 gathered-all P stop more (suc n) w at bs =
     go (word bs) refl
     (λ r. gathered-all P stop more n (added w (r .letter) (r .word)) (at + r .size) (drop (r .size) bs))

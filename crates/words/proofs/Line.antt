@@ -19,7 +19,7 @@ use Rattle.words.specs.declared.Number.{Number}
 use Rattle.words.specs.Gathering.{firstLine}
 use Rattle.words.specs.Reading.{numberOf, number}
 use Rattle.words.proofs.Bytes.{test-inside, front-inside}
-use Rattle.words.proofs.Numerals.{digits-stop, digits-more, digits-bounded}
+use Rattle.words.proofs.Numerals.{digits-bounded}
 use Rattle.words.proofs.Word.{readOf, word-number}
 
 -- it has as many bytes as stand before the line feed
@@ -36,9 +36,10 @@ line-drop (suc k) (b ∷ bs) h = go (eqb b lineFeed) refl (line-drop k bs)
     go :
         (f : Bool) → eqb b lineFeed ≡ f → (k ≤ lineLength bs → drop k (firstLine bs) ≡ firstLine (drop k bs))
         → drop (suc k) (firstLine (b ∷ bs)) ≡ firstLine (drop k bs)
-    go true e rest = let z : lineLength (b ∷ bs) ≡ 0 = rw (e, lineLength) in absurd (omega arith)
+    go true e rest = absurd (omega (arith, line-ends (b ∷ bs) 0 (omega arith) (eqb-true b lineFeed e)))
     go false e rest =
-        let n : lineLength (b ∷ bs) ≡ suc (lineLength bs) = rw (e, lineLength) in
+        let n : lineLength (b ∷ bs) ≡ suc (lineLength bs) =
+        line-goes-on (b ∷ bs) 0 (omega arith) (eqb-false b lineFeed e) in
         rw n (rest (omega arith))
 
 -- it is empty where a line feed stands
@@ -70,29 +71,22 @@ line-byte f bs k e h = inside (ltb k (lineLength bs)) refl
         ∙ behind n (ltb k (length bs)) refl
 
 -- digits end before a line feed
-pub line-digits :
-    (n value count : ℕ) (bs : List ℕ) → digits n value count (firstLine bs) ≡ digits n value count bs
+line-digits : (n value count : ℕ) (bs : List ℕ) → digits n value count (firstLine bs) ≡ digits n value count bs
 unfolding lineLength digits
 line-digits zero value count bs = refl
 line-digits (suc n) value count [] = refl
 line-digits (suc n) value count (b ∷ bs) =
-    go (eqb b lineFeed) (isDigit b) refl refl (line-digits n (value * 10 + (b - 48)) (suc count) bs)
+    go (eqb b lineFeed) refl (line-digits n (value * 10 + (b - 48)) (suc count) bs)
   where
     go :
-        (f d : Bool) → eqb b lineFeed ≡ f → isDigit b ≡ d
+        (f : Bool) → eqb b lineFeed ≡ f
         → digits n (value * 10 + (b - 48)) (suc count) (firstLine bs)
         ≡ digits n (value * 10 + (b - 48)) (suc count) bs
         → digits (suc n) value count (firstLine (b ∷ bs)) ≡ digits (suc n) value count (b ∷ bs)
-    go true d e g rest =
-        let z : lineLength (b ∷ bs) ≡ 0 = rw (e, lineLength) in
-        rw z (sym (digits-stop (suc n) value count (b ∷ bs) (ap isDigit (eqb-true b lineFeed e))))
-    go false true e g rest =
-        let z : lineLength (b ∷ bs) ≡ suc (lineLength bs) = rw (e, lineLength) in
-        rw z (digits-more n value count (b ∷ firstLine bs) g ∙ rest ∙ sym (digits-more n value count (b ∷ bs) g))
-    go false false e g rest =
-        let z : lineLength (b ∷ bs) ≡ suc (lineLength bs) = rw (e, lineLength) in
-        rw z
-        (digits-stop (suc n) value count (b ∷ firstLine bs) g ∙ sym (digits-stop (suc n) value count (b ∷ bs) g))
+    go true e rest = rw (eqb-true b lineFeed e)
+    go false e rest =
+        rw (line-goes-on (b ∷ bs) 0 (omega arith) (eqb-false b lineFeed e))
+        (ap (λ (d : Digits). elim (isDigit b) [ true ↦ d | false ↦ record { value = value; count = count } ]) rest)
 
 -- ---- the number and the word at the front
 

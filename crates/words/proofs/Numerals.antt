@@ -7,15 +7,15 @@ use Prim.Native.Nat.{ℕ, zero, suc, _+_, _-_, _*_, _^_, _≤_, _<_}
 use native.Mathlib.Nat.{add-zero, pow-suc, pow-le-pow-right, lt-of-lt-of-le}
 use native.Mathlib.Omega.{arith}
 use native.Mathlib.Numerals.{add-one}
-use lib.Dec.{eqb, ltb, lit≤, lit<}
-use lib.ListN.{length, drop, getD, drop-of-length-le}
+use lib.Dec.{eqb, lit≤, lit<}
+use lib.ListN.{length, drop, getD}
 use lib.Seq.{drop-drop, getD-drop}
-use borrow.Author.Tests.{ltb-true, ltb-false, eqb-true}
+use borrow.Author.Tests.{eqb-true}
 use Rattle.aries.specs.Text.{isDigit}
 use Rattle.aries.specs.Test.{pick}
 use Rattle.aries.specs.Words.{Digits, digits, hundredths}
 use Rattle.words.specs.Reading.{Held, held, meant}
-use Rattle.words.proofs.Bytes.{test-inside, digit-high}
+use Rattle.words.proofs.Bytes.{digit-high}
 
 -- ---- one step
 

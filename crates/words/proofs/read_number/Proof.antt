@@ -2,12 +2,12 @@
 use mathlib.Core.Path.{_≡_, refl, sym, ap, _∙_}
 use mathlib.Core.Bool.{true}
 use mathlib.Core.List.{List}
-use Prim.Native.Nat.{ℕ, _+_, _≤_, _<_}
+use Prim.Native.Nat.{ℕ, _+_, _≤_}
 use native.Mathlib.Omega.{arith}
 use borrow.Author.Needs.{needs}
 use borrow.Author.Tests.{not-true, not-false, eq-eqb, ne-eqb, leb-true}
 use lib.Dec.{eqb, leb}
-use lib.ListN.{length, getD, drop, length-drop}
+use lib.ListN.{getD, drop, length-drop}
 use Rattle.aries.specs.Test.{within}
 use Rattle.aries.specs.Words.{digits, point}
 use Rattle.signed.proofs.Tests.{both-right}
