@@ -23,10 +23,6 @@ use Rattle.words.proofs.Line.{line-length, line-drop, line-word}
 
 -- ---- one word
 
-word-nil : word [] ≡ none
-unfolding word
-word-nil = refl
-
 gathered-none : (n : ℕ) (w : Words) (at : ℕ) (bs : List ℕ) → word bs ≡ none
     → gathered n w at bs ≡ record { words = w; end = at; formed = eqb (length bs) 0 }
 unfolding gathered
@@ -50,10 +46,10 @@ ifFormed g = pick (g .formed) (some (g .words)) none
 
 -- they are those of the line where no bytes are left
 gathered-gather : (n : ℕ) (w : Words) (at : ℕ) (bs : List ℕ) → gather n w bs ≡ ifFormed (gathered n w at bs)
-unfolding gather gathered
+unfolding gather gathered word
 gathered-gather zero w at [] = refl
 gathered-gather zero w at (b ∷ bs) = rw (some-left b bs)
-gathered-gather (suc n) w at [] = ap ifFormed (sym (gathered-none (suc n) w at [] word-nil))
+gathered-gather (suc n) w at [] = refl
 gathered-gather (suc n) w at (b ∷ bs) =
     go (word (b ∷ bs)) refl
     (λ r. gathered-gather n (added w (r .letter) (r .word)) (at + r .size) (drop (r .size) (b ∷ bs)))

@@ -1,7 +1,7 @@
 -- Laws of `number` and `word`: a word by its letter, the byte where its sign is due and its number; what holds of both;
 -- and what the code answers of them.
 -- Assumes nothing.
-use mathlib.Core.Path.{_≡_, refl, sym, ap, _∙_, subst}
+use mathlib.Core.Path.{_≡_, refl, ap, _∙_, subst}
 use mathlib.Core.Bool.{Bool, true, false}
 use mathlib.Core.List.{List}
 use mathlib.Core.Option.{Option, none, some}
@@ -15,13 +15,13 @@ use lib.Seq.{getD-drop, drop-drop}
 use borrow.Author.Tests.{le-leb, leb-true}
 use Rattle.aries.specs.Test.{both, within, pick}
 use Rattle.aries.specs.Text.{isCapital}
-use Rattle.aries.specs.Words.{Digits, Read, digits, isSign, minus, point, hundredths, frontSize, wordOf, word}
+use Rattle.aries.specs.Words.{Digits, Read, digits, isSign, minus, point, frontSize, wordOf, word}
 use Rattle.signed.proofs.Integers.{abs-withSign}
 use Rattle.signed.proofs.Tests.{both-left, both-right}
 use Rattle.words.specs.declared.Number.{Number}
 use Rattle.words.specs.declared.Reading.{Reading}
 use Rattle.words.specs.Keeping.{wordIn}
-use Rattle.words.specs.Reading.{noNumber, numberOf, number, noReading, readingOf, readingAt}
+use Rattle.words.specs.Reading.{numberOf, number, noReading, readingOf, readingAt}
 use Rattle.words.proofs.Tests.{both-false, pick-same}
 use Rattle.words.proofs.Bytes.{test-inside, front-inside}
 use Rattle.words.proofs.Keeping.{form-word, form-positive}
@@ -37,11 +37,6 @@ pub number-at :
 unfolding number
 number-at t from whole e = simp (getD-drop, drop-drop, ← e, ← add-assoc)
 
--- it lies within the bytes, and its value is below 10^6
-pub record Small (bs : List ℕ) (n : Number) : Type 0 where
-  pub inside : n .size ≤ length bs
-  pub small : n .value < 1000000
-
 module _ (bs : List ℕ) where
   abbrev whole : Digits
   whole = digits 6 0 0 bs
@@ -52,11 +47,9 @@ module _ (bs : List ℕ) where
   abbrev decimals : Digits
   decimals = digits 2 0 0 (drop (whole .count + 1) bs)
 
-  number-is : number bs ≡ numberOf whole stop decimals
+  -- it lies within the bytes, and its value is below 10^6
+  pub number-small : (number bs .size ≤ length bs) × (number bs .value < 1000000)
   unfolding number
-  number-is = refl
-
-  pub number-small : Small bs (number bs)
   number-small = go (eqb stop point) (within 1 4 (whole .count)) refl refl
     where
       w : Bounded 6 0 bs whole
@@ -65,25 +58,22 @@ module _ (bs : List ℕ) where
       d : Bounded 2 0 (drop (whole .count + 1) bs) decimals
       d = digits-bounded 2 0 0 (drop (whole .count + 1) bs) (lit< tt)
 
-      known : (n : Number) → number bs ≡ n → n .size ≤ length bs → n .value < 1000000 → Small bs (number bs)
-      known n e h v = rw e (record { inside = h; small = v })
-
-      go : (s t : Bool) → eqb stop point ≡ s → within 1 4 (whole .count) ≡ t → Small bs (number bs)
+      go :
+          (s t : Bool) → eqb stop point ≡ s → within 1 4 (whole .count) ≡ t
+          → (number bs .size ≤ length bs) × (number bs .value < 1000000)
       go false t e f =
-          known (record { value = whole .value; pointed = false; size = whole .count }) (number-is ∙ simp e)
-          (omega (arith, w .inside))
-          (below-power (whole .value) (whole .count) 6 (w .small) (omega (arith, w .few)))
-      go true false e f = known noNumber (number-is ∙ simp (e, f)) (omega arith) (lit< tt)
+          simp e
+          (omega (arith, w .inside), below-power (whole .value) (whole .count) 6 (w .small) (omega (arith, w .few)))
+      go true false e f = simp (e, f) (omega arith, lit< tt)
       go true true e f =
           let h : whole .count < length bs = test-inside (λ (b : ℕ). eqb b point) bs (whole .count) refl e in
           let k : whole .count ≤ 4 =
           leb-true (whole .count) 4 (both-right (leb 1 (whole .count)) (leb (whole .count) 4) f) in
-          known
-          (record { value = hundredths whole decimals; pointed = true; size = whole .count + 1 + decimals .count })
-          (number-is ∙ simp (e, f))
-          (omega (arith, d .inside, length-drop (whole .count + 1) bs))
-          (hundredths-small whole decimals (below-power (whole .value) (whole .count) 4 (w .small) k) (d .small)
-          (omega (arith, d .few)))
+          simp (e, f) (
+            omega (arith, d .inside, length-drop (whole .count + 1) bs),
+            hundredths-small whole decimals (below-power (whole .value) (whole .count) 4 (w .small) k) (d .small)
+                (omega (arith, d .few)),
+          )
 
 -- a number at a place of a text
 pub number-fits :
@@ -91,7 +81,7 @@ pub number-fits :
     → (from + n .size ≤ length t) × (n .value < 1000000)
 number-fits t from n h e =
     let s = number-small (drop from t) in
-    rw e (omega (arith, s .inside, length-drop from t), s .small)
+    rw e (omega (arith, s .0, length-drop from t), s .1)
 
 -- ---- a word by its number
 
@@ -107,37 +97,32 @@ readOf letter sign front n =
     none
 
 module _ (bs : List ℕ) where
-  abbrev front : ℕ
-  front = frontSize bs
-
-  -- the digits, the byte behind them, and the digits behind that
   abbrev first : Digits
-  first = digits 6 0 0 (drop front bs)
+  first = digits 6 0 0 (drop (frontSize bs) bs)
 
+  -- the byte behind its first digits, and the digits behind that
   abbrev behind : ℕ
-  behind = getD bs (front + first .count) 0
+  behind = getD bs (frontSize bs + first .count) 0
 
   abbrev second : Digits
-  second = digits 2 0 0 (drop (front + first .count + 1) bs)
+  second = digits 2 0 0 (drop (frontSize bs + first .count + 1) bs)
 
-  by-parts : word bs ≡ readOf (getD bs 0 0) (getD bs 1 0) front (numberOf first behind second)
+  pub word-number : word bs ≡ readOf (getD bs 0 0) (getD bs 1 0) (frontSize bs) (number (drop (frontSize bs) bs))
   unfolding word
-  by-parts = go (eqb behind point) (leb 1 (first .count)) (leb (first .count) 4) refl refl refl
+  word-number =
+      rw (number-at bs (frontSize bs) first refl)
+      (go (eqb behind point) (leb 1 (first .count)) (leb (first .count) 4) refl refl refl)
     where
       go :
           (q p r : Bool) → eqb behind point ≡ q → leb 1 (first .count) ≡ p → leb (first .count) 4 ≡ r
-          → word bs ≡ readOf (getD bs 0 0) (getD bs 1 0) front (numberOf first behind second)
+          → word bs ≡ readOf (getD bs 0 0) (getD bs 1 0) (frontSize bs) (numberOf first behind second)
       go false p r g e h = simp g
       go true false r g e h = simp (e, g, both-false)
       go true true false g e h =
           simp (e, g, h, both-false) (pick-same (both (isCapital (getD bs 0 0)) true) none)
       go true true true g e h =
-          let k : leb 1 (first .count + 1 + second .count) ≡ true =
-          le-leb 1 (first .count + 1 + second .count) (omega arith) in
+          let k = le-leb 1 (first .count + 1 + second .count) (omega arith) in
           simp (e, g, h, k) (simp add-assoc)
-
-  pub word-number : word bs ≡ readOf (getD bs 0 0) (getD bs 1 0) (frontSize bs) (number (drop (frontSize bs) bs))
-  word-number = by-parts ∙ ap (readOf (getD bs 0 0) (getD bs 1 0) front) (sym (number-at bs front first refl))
 
 -- what holds of a word that was read from a line: its letter, its size and its value
 pub record Formed (bs : List ℕ) (r : Read) : Type 0 where
@@ -171,15 +156,15 @@ module _ (bs : List ℕ) (r : Read) (e : word bs ≡ some r) where
       go true g =
           let c : isCapital (getD bs 0 0) ≡ true = both-left (isCapital (getD bs 0 0)) (leb 1 (n .size)) g in
           let b : 1 ≤ n .size = leb-true 1 (n .size) (both-right (isCapital (getD bs 0 0)) (leb 1 (n .size)) g) in
-          let s : Small (drop (frontSize bs) bs) n = number-small (drop (frontSize bs) bs) in
+          let s = number-small (drop (frontSize bs) bs) in
           let z : word bs ≡ some found = word-number bs ∙ simp g in
           let q : found ≡ r = cc in
           subst (Formed bs) q
           (record {
             capital = c;
             some-bytes = omega arith;
-            inside = omega (arith, s .inside, front-inside bs 0 (frontSize bs) c refl, length-drop (frontSize bs) bs);
-            small = rw (abs-withSign (eqb (getD bs 1 0) minus) (n .value)) (omega (arith, s .small));
+            inside = omega (arith, s .0, front-inside bs 0 (frontSize bs) c refl, length-drop (frontSize bs) bs);
+            small = rw (abs-withSign (eqb (getD bs 1 0) minus) (n .value)) (omega (arith, s .1));
             written = refl;
           })
 
