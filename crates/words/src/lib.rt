@@ -228,11 +228,7 @@ fn is_plain(form: u8) -> bool
 fn is_reading_code(form: u8, code: u32) -> bool
     ensures { λ r. ⌜ r ≡ both (isPlain (wordIn form (pos 0))) (among (90 ∷ 91 ∷ []) code) ⌝ }
 {
-    if is_plain(form) {
-        (code == 90) | (code == 91)
-    } else {
-        false
-    }
+    is_plain(form) & ((code == 90) | (code == 91))
 }
 
 // Whether a G code is that of a pattern.
