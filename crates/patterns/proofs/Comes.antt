@@ -50,6 +50,10 @@ pub record Series : Type 0 where
   pub before : Lent
   pub count : ℕ
 
+abbrev pub seriesOf : Frame → Punch → Pattern → Point → ℕ → Lent → ℕ → Series
+seriesOf f with p start hits before count =
+    record { frame = f; with = with; pattern = p; start = start; hits = hits; before = before; count = count }
+
 -- what it comes to
 abbrev pub Ends : Series → Reached → Lent → Type 0
 Ends s r after = Comes r (s .frame) (s .with) (s .start) (s .hits) (s .before) after (series (s .frame) (s .pattern) (s .start))

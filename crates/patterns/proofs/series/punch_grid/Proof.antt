@@ -13,7 +13,7 @@ use Rattle.aries.specs.Moves.{_⊕_}
 use Rattle.aries.specs.Patterns.{gridOffset, hole, holes}
 use Rattle.aries.specs.Places.{pointOf}
 use Rattle.aries.specs.Runs.{lent}
-use Rattle.patterns.proofs.Comes.{Series, Under, under-start, under-next, under-refused, under-end}
+use Rattle.patterns.proofs.Comes.{Series, seriesOf, Under, under-start, under-next, under-refused, under-end}
 use Rattle.patterns.proofs.Holes.{lane-small}
 use Rattle.patterns.proofs.Offsets.{hole-grid}
 use borrow.Author.Needs.{needs}
@@ -24,7 +24,7 @@ abbrev Inv-loop : tie.InvT-loop
 Inv-loop list₀ frame with start hits vertical pitch steps count last made₀ cursor₀ k₀ list made cursor k =
     (length list ≡ length list₀)
     × (cursor ≡ cursorAt last k)
-    × Under (record { frame = frame; with = with; pattern = Grid vertical pitch steps; start = start; hits = hits; before = lent list₀; count = count }) (lent list) made k
+    × Under (seriesOf frame with (Grid vertical pitch steps) start hits (lent list₀) count) (lent list) made k
 
 abbrev μ-loop : tie.MeasureT-loop
 μ-loop list₀ frame with start hits vertical pitch steps count last made₀ cursor₀ k₀ list made cursor k =
@@ -37,15 +37,7 @@ entry c = c .before .before .before .before
 abbrev grid : tie.After-grid-holes Inv-loop μ-loop → Series
 grid c =
     let a = c .before .args in
-    record {
-      frame = a .frame;
-      with = a .with;
-      pattern = Grid (a .vertical) (a .pitch) (a .steps);
-      start = a .start;
-      hits = a .hits;
-      before = lent (a .list .now);
-      count = c .grid-holes .result;
-    }
+    seriesOf (a .frame) (a .with) (Grid (a .vertical) (a .pitch) (a .steps)) (a .start) (a .hits) (lent (a .list .now)) (c .grid-holes .result)
 
 -- the steps are of 16 bits
 steps-fit : (c : tie.Start Inv-loop μ-loop) → (c .args .steps .x < 65536) × (c .args .steps .y < 65536)

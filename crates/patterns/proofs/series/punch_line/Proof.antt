@@ -12,7 +12,7 @@ use Rattle.aries.specs.Moves.{_⊕_}
 use Rattle.aries.specs.Patterns.{hole, holes}
 use Rattle.aries.specs.Places.{pointOf}
 use Rattle.aries.specs.Runs.{lent}
-use Rattle.patterns.proofs.Comes.{Series, Under, under-start, under-next, under-refused, under-end}
+use Rattle.patterns.proofs.Comes.{Series, seriesOf, Under, under-start, under-next, under-refused, under-end}
 use Rattle.patterns.proofs.Holes.{nearer}
 use Rattle.patterns.proofs.Offsets.{hole-line}
 use borrow.Author.Needs.{needs}
@@ -22,7 +22,7 @@ use Rattle.patterns.proofs.series.punch_line.Tie as tie
 abbrev Inv-loop : tie.InvT-loop
 Inv-loop list₀ frame with start hits pitch angle count direction made₀ k₀ list made k =
     (length list ≡ length list₀)
-    × Under (record { frame = frame; with = with; pattern = Line (toZ w32 pitch) (toZ w32 angle) count; start = start; hits = hits; before = lent list₀; count = count }) (lent list) made k
+    × Under (seriesOf frame with (Line (toZ w32 pitch) (toZ w32 angle) count) start hits (lent list₀) count) (lent list) made k
 
 abbrev μ-loop : tie.MeasureT-loop
 μ-loop list₀ frame with start hits pitch angle count direction made₀ k₀ list made k = count - k
@@ -35,15 +35,7 @@ entry c = c .before .before
 abbrev line : tie.Start Inv-loop μ-loop → Series
 line c =
     let a = c .args in
-    record {
-      frame = a .frame;
-      with = a .with;
-      pattern = Line (toZ w32 (ofZ w32 (a .pitch))) (toZ w32 (ofZ w32 (a .angle))) (a .count);
-      start = a .start;
-      hits = a .hits;
-      before = lent (a .list .now);
-      count = a .count;
-    }
+    seriesOf (a .frame) (a .with) (Line (toZ w32 (ofZ w32 (a .pitch))) (toZ w32 (ofZ w32 (a .angle))) (a .count)) (a .start) (a .hits) (lent (a .list .now)) (a .count)
 
 -- the place of a hit
 place-is : (c : tie.After-line-place Inv-loop μ-loop)
