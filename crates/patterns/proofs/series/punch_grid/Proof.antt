@@ -7,7 +7,6 @@ use lib.ListN.{length}
 use Rattle.lanes.specs.declared.Cursor.{Cursor}
 use Rattle.lanes.specs.Cursors.{cursorAt, passed}
 use Rattle.lanes.proofs.Cursors.{passed-at, at-zero, rest-within, lane-least}
-use Rattle.aries.specs.declared.point.Point.{Point}
 use Rattle.aries.specs.declared.block.Pattern.the-variants.{Grid}
 use Rattle.aries.specs.Moves.{_⊕_}
 use Rattle.aries.specs.Patterns.{gridOffset, hole, holes}
@@ -15,7 +14,6 @@ use Rattle.aries.specs.Places.{pointOf}
 use Rattle.aries.specs.Runs.{lent}
 use Rattle.patterns.proofs.Comes.{Series, seriesOf, Under, under-start, under-next, under-refused, under-end}
 use Rattle.patterns.proofs.Holes.{lane-small}
-use Rattle.patterns.proofs.Offsets.{hole-grid}
 use borrow.Author.Needs.{needs}
 use Rattle.patterns.proofs.series.punch_grid.Statement.{statement}
 use Rattle.patterns.proofs.series.punch_grid.Tie as tie
@@ -65,6 +63,7 @@ counted c = c .before .before .before
 -- the place of a hit
 place-is : (c : tie.After-grid-place Inv-loop μ-loop)
     → pointOf (c .grid-place .result) ≡ grid (counted (turn c .before)) .start ⊕ hole (grid (counted (turn c .before)) .pattern) (turn c .before .loop .k)
+unfolding hole
 place-is c =
     let l = turn c .before in
     let a = entry l .args in
@@ -72,7 +71,6 @@ place-is c =
     let cursor = c .before .next .result in
     let m = ap (λ (n : ℕ). passed n cursor) (sym (last .ensures)) ∙ ap (passed (last .result)) (next-is (c .before)) ∙ passed-at (last .result) (suc (l .loop .k)) in
     c .grid-place .ensures ∙ ap (λ (n : ℕ). a .start ⊕ gridOffset (a .vertical) (a .pitch) (a .steps) n) m
-    ∙ ap (λ (q : Point). a .start ⊕ q) (hole-grid (l .loop .k) (a .vertical) (a .pitch) (a .steps))
 
 grid-holes-requires : tie.Need-grid-holes-requires Inv-loop μ-loop
 grid-holes-requires c κs = search needs

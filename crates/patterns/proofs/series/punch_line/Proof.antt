@@ -43,7 +43,7 @@ place-is : (c : tie.After-line-place Inv-loop μ-loop)
 place-is c =
     let l = c .before .before in
     let s = line (entry l) in
-    (rw (l .before .line-direction .ensures) at (c .line-place .ensures)) ∙ ap (λ (q : Point). s .start ⊕ q) (hole-line (l .loop .k) _ _ (s .count))
+    (rw (l .before .line-direction .ensures) at (c .line-place .ensures)) ∙ ap (λ (q : Point). s .start ⊕ q) (hole-line _ _ (s .count) (l .loop .k))
 
 line-direction-requires : tie.Need-line-direction-requires Inv-loop μ-loop
 line-direction-requires c κs = search needs
