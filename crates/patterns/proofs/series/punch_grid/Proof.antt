@@ -72,15 +72,6 @@ place-is c =
     let m = ap (λ (n : ℕ). passed n cursor) (sym (last .ensures)) ∙ ap (passed (last .result)) (next-is (c .before)) ∙ passed-at (last .result) (suc (l .loop .k)) in
     c .grid-place .ensures ∙ ap (λ (n : ℕ). a .start ⊕ gridOffset (a .vertical) (a .pitch) (a .steps) n) m
 
-grid-holes-requires : tie.Need-grid-holes-requires Inv-loop μ-loop
-grid-holes-requires c κs = search needs
-
-lane-end-requires : tie.Need-lane-end-requires Inv-loop μ-loop
-lane-end-requires c κs = search needs
-
-first-requires : tie.Need-first-requires Inv-loop μ-loop
-first-requires c κs = search needs
-
 loop-holds : tie.Need-loop-holds Inv-loop μ-loop
 loop-holds c =
     (refl, c .first .ensures ∙ sym (at-zero (c .before .lane-end .result)), under-start (grid (c .before .before)))
@@ -102,24 +93,12 @@ grid-place-requires c κs =
     let small = lane-small (e .args .vertical) (e .args .steps) (last .result) (l .loop .k) (last .ensures) (omega (arith, counted l .grid-holes .ensures)) (steps-fit e .0) (steps-fit e .1) in
     omega (arith, last .ensures, ap (λ (d : Cursor). d .rest) (next-is c), ap (λ (d : Cursor). d .lane) (next-is c), rest-within (last .result) (suc (l .loop .k)))
 
-punch-next-requires : tie.Need-punch-next-requires Inv-loop μ-loop
-punch-next-requires c κs = search needs
-
-same-length : tie.Need-same-length Inv-loop μ-loop
-same-length c = search needs
-
 returns : tie.Need-returns Inv-loop μ-loop
 returns c =
     let h = c .before .before .before in
     let p = h .before .before in
     let l = turn p .before in
     under-refused (grid (counted l)) (l .loop .inv .2) (turn p .loop-test .taken) (place-is p) (h .punch-next .result) (h .punch-next .ensures) (c .if1 .taken) (count-is (counted l))
-
-add-k : tie.Need-add-k Inv-loop μ-loop
-add-k c = search needs
-
-loop-less : tie.Need-loop-less Inv-loop μ-loop
-loop-less c = search needs
 
 loop-again : tie.Need-loop-again Inv-loop μ-loop
 loop-again c =
@@ -130,9 +109,6 @@ loop-again c =
       rw add-one (next-is (p .before)),
       under-next (grid (counted l)) (l .loop .inv .2) (turn p .loop-test .taken) (place-is p) (h .punch-next .result) (h .punch-next .ensures) (omega arith),
     )
-
-same-length-2 : tie.Need-same-length-2 Inv-loop μ-loop
-same-length-2 c = search needs
 
 returns-2 : tie.Need-returns-2 Inv-loop μ-loop
 returns-2 c =
@@ -145,17 +121,17 @@ punch-grid-spec =
     (tie.spec
     Inv-loop
     μ-loop
-    grid-holes-requires
-    lane-end-requires
-    first-requires
+    (λ c κs. search needs)
+    (λ c κs. search needs)
+    (λ c κs. search needs)
     loop-holds
     next-requires
     grid-place-requires
-    punch-next-requires
-    same-length
+    (λ c κs. search needs)
+    (λ c. search needs)
     returns
-    add-k
-    loop-less
+    (λ c. search needs)
+    (λ c. search needs)
     loop-again
-    same-length-2
+    (λ c. search needs)
     returns-2)

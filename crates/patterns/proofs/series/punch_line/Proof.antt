@@ -45,26 +45,14 @@ place-is c =
     let s = line (entry l) in
     (rw (l .before .line-direction .ensures) at (c .line-place .ensures)) ∙ ap (λ (q : Point). s .start ⊕ q) (hole-line _ _ (s .count) (l .loop .k))
 
-line-direction-requires : tie.Need-line-direction-requires Inv-loop μ-loop
-line-direction-requires c κs = search needs
-
 loop-holds : tie.Need-loop-holds Inv-loop μ-loop
 loop-holds c =
     (refl, under-start (line (c .before)))
-
-add-k : tie.Need-add-k Inv-loop μ-loop
-add-k c = search needs
 
 line-place-requires : tie.Need-line-place-requires Inv-loop μ-loop
 line-place-requires c κs =
     let e = entry (c .before) in
     simp (toZ-ofZ (e .fits .pitch)) (nearer (c .before .loop .k + 1) (e .args .count) (e .args .pitch) (omega arith) (e .pre))
-
-punch-next-requires : tie.Need-punch-next-requires Inv-loop μ-loop
-punch-next-requires c κs = search needs
-
-same-length : tie.Need-same-length Inv-loop μ-loop
-same-length c = search needs
 
 returns : tie.Need-returns Inv-loop μ-loop
 unfolding holes
@@ -75,9 +63,6 @@ returns c =
     simp (toZ-ofZ (e .fits .pitch), toZ-ofZ (e .fits .angle)) at
     (under-refused (line e) (i .before .loop .inv .1) (i .loop-test .taken) (place-is (h .before .before)) (h .punch-next .result) (h .punch-next .ensures) (c .if1 .taken) refl)
 
-loop-less : tie.Need-loop-less Inv-loop μ-loop
-loop-less c = search needs
-
 loop-again : tie.Need-loop-again Inv-loop μ-loop
 loop-again c =
     let h = c .before .before .before in
@@ -85,9 +70,6 @@ loop-again c =
       h .punch-next .kept .0 ∙ i .before .loop .inv .0,
       under-next (line (entry (i .before))) (i .before .loop .inv .1) (i .loop-test .taken) (place-is (h .before .before)) (h .punch-next .result) (h .punch-next .ensures) (omega arith),
     )
-
-same-length-2 : tie.Need-same-length-2 Inv-loop μ-loop
-same-length-2 c = search needs
 
 returns-2 : tie.Need-returns-2 Inv-loop μ-loop
 unfolding holes
@@ -103,14 +85,14 @@ punch-line-spec =
     (tie.spec
     Inv-loop
     μ-loop
-    line-direction-requires
+    (λ c κs. search needs)
     loop-holds
-    add-k
+    (λ c. search needs)
     line-place-requires
-    punch-next-requires
-    same-length
+    (λ c κs. search needs)
+    (λ c. search needs)
     returns
-    loop-less
+    (λ c. search needs)
     loop-again
-    same-length-2
+    (λ c. search needs)
     returns-2)

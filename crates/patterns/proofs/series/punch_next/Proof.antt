@@ -28,24 +28,12 @@ places-fit c = omega arith
 is-made : (c : tie.After-judged2) → Made (c .judged2 .given .0 .0) ≡ judgedHit (entry (c .before .before .before) .args .frame) (point (c .before .before .before)) (entry (c .before .before .before) .args .with .tool) (entry (c .before .before .before) .args .from .hits)
 is-made c = sym (c .judged2 .given .1) ∙ c .before .before .before .hit .ensures .0
 
-hit-requires : tie.Need-hit-requires
-hit-requires c κs = search needs
-
-enum-known-judged : tie.Need-enum-known-judged
-enum-known-judged c = search needs
-
-enum-known-judged-2 : tie.Need-enum-known-judged-2
-enum-known-judged-2 c = search needs
-
 add-t14 : tie.Need-add-t14
 add-t14 c =
     let j = c .before in
     let h = j .before .before .before in
     let a = entry h .args in
     omega (arith, places-fit (entry h), hit-fits (a .frame) (point h) (a .with .tool) (a .from .hits) (j .judged2 .given .0 .0) (is-made j))
-
-same-length : tie.Need-same-length
-same-length c = search needs
 
 returns : tie.Need-returns
 returns c =
@@ -57,9 +45,6 @@ returns c =
     let is = sym (j .judged .given .1) ∙ h .hit .ensures .0 in
     rw (status-refused number line (refusal-positive (a .frame) (point h) (a .with .tool) (a .from .hits) number is))
     (punch-refused (a .frame) line (point h) (come g (a .with) (a .from .current) (a .from .hits)) number is)
-
-same-length-2 : tie.Need-same-length-2
-same-length-2 c = search needs
 
 returns-2 : tie.Need-returns-2
 returns-2 c =
@@ -74,11 +59,11 @@ pub punch-next-spec : {M : Type 1} → statement M
 punch-next-spec =
     tie.close
     (tie.spec
-    hit-requires
-    enum-known-judged
-    enum-known-judged-2
+    (λ c κs. search needs)
+    (λ c. search needs)
+    (λ c. search needs)
     add-t14
-    same-length
+    (λ c. search needs)
     returns
-    same-length-2
+    (λ c. search needs)
     returns-2)

@@ -7,35 +7,11 @@ use borrow.Author.Needs.{needs}
 use Rattle.patterns.proofs.series.punch_series.Statement.{statement}
 use Rattle.patterns.proofs.series.punch_series.Tie as tie
 
-enum-known-pattern : tie.Need-enum-known-pattern
-enum-known-pattern c = search needs
-
 punch-line-requires : tie.Need-punch-line-requires
 unfolding reaches
 punch-line-requires c κs =
     let p = c .before .before in
     simp (read-back w32 (p .pattern .given .0 .0) (c .before .known-told .given .0 .1)) (sym (ap reaches (p .pattern .given .1)) ∙ p .before .before .pre)
-
-enum-known-pattern-2 : tie.Need-enum-known-pattern-2
-enum-known-pattern-2 c = search needs
-
-punch-arc-requires : tie.Need-punch-arc-requires
-punch-arc-requires c κs = search needs
-
-enum-known-pattern-3 : tie.Need-enum-known-pattern-3
-enum-known-pattern-3 c = search needs
-
-punch-circle-requires : tie.Need-punch-circle-requires
-punch-circle-requires c κs = search needs
-
-enum-known-pattern-4 : tie.Need-enum-known-pattern-4
-enum-known-pattern-4 c = search needs
-
-punch-grid-requires : tie.Need-punch-grid-requires
-punch-grid-requires c κs = search needs
-
-same-length : tie.Need-same-length
-same-length c = search needs
 
 returns : tie.Need-returns
 returns c =
@@ -43,9 +19,6 @@ returns c =
     let p = k .before .pattern .given in
     let fits = k .known-told .given in
     rw (p .1) (simp (read-back w32 (p .0 .0) (fits .0 .1), read-back w32 (p .0 .1 .0) (fits .1 .0 .1)) at (c .before .punch-line .ensures))
-
-same-length-2 : tie.Need-same-length-2
-same-length-2 c = search needs
 
 returns-2 : tie.Need-returns-2
 returns-2 c =
@@ -56,18 +29,12 @@ returns-2 c =
     (simp (read-back w32 (p .0 .0) (fits .0 .1), read-back w32 (p .0 .1 .0) (fits .1 .0 .1), read-back w32 (p .0 .1 .1 .0) (fits .1 .1 .0 .1)) at
     (c .before .punch-arc .ensures))
 
-same-length-3 : tie.Need-same-length-3
-same-length-3 c = search needs
-
 returns-3 : tie.Need-returns-3
 returns-3 c =
     let k = c .before .before .before in
     let p = k .before .pattern3 .given in
     let fits = k .known-told3 .given in
     rw (p .1) (simp (read-back w32 (p .0 .0) (fits .0 .1), read-back w32 (p .0 .1 .0) (fits .1 .0 .1)) at (c .before .punch-circle .ensures))
-
-same-length-4 : tie.Need-same-length-4
-same-length-4 c = search needs
 
 returns-4 : tie.Need-returns-4
 returns-4 c =
@@ -77,19 +44,19 @@ pub punch-series-spec : {M : Type 1} → statement M
 punch-series-spec =
     tie.close
     (tie.spec
-    enum-known-pattern
+    (λ c. search needs)
     punch-line-requires
-    enum-known-pattern-2
-    punch-arc-requires
-    enum-known-pattern-3
-    punch-circle-requires
-    enum-known-pattern-4
-    punch-grid-requires
-    same-length
+    (λ c. search needs)
+    (λ c κs. search needs)
+    (λ c. search needs)
+    (λ c κs. search needs)
+    (λ c. search needs)
+    (λ c κs. search needs)
+    (λ c. search needs)
     returns
-    same-length-2
+    (λ c. search needs)
     returns-2
-    same-length-3
+    (λ c. search needs)
     returns-3
-    same-length-4
+    (λ c. search needs)
     returns-4)
