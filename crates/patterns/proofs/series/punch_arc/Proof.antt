@@ -12,18 +12,18 @@ use Rattle.aries.specs.Moves.{_⊕_}
 use Rattle.aries.specs.Patterns.{hole, holes}
 use Rattle.aries.specs.Places.{pointOf}
 use Rattle.aries.specs.Runs.{lent}
-use Rattle.patterns.proofs.Comes.{Series, seriesOf, Under, under-start, under-next, under-refused, under-end}
+use Rattle.patterns.proofs.Comes.{Series, seriesOf, UnderWay, under-start, under-next, under-refused, under-end}
 use borrow.Author.Needs.{needs}
 use Rattle.patterns.proofs.series.punch_arc.Statement.{statement}
 use Rattle.patterns.proofs.series.punch_arc.Tie as tie
 
 abbrev Inv-loop : tie.InvT-loop
-Inv-loop list₀ frame with start hits radius angle step count degrees sines cosines made₀ k₀ list made k =
+Inv-loop list₀ frame tooling start hits radius angle step count degrees sines cosines made₀ k₀ list made k =
     (length list ≡ length list₀)
-    × Under (seriesOf frame with (Arc (toZ w32 radius) (toZ w32 angle) (toZ w32 step) count) start hits (lent list₀) count) (lent list) made k
+    × UnderWay (seriesOf frame tooling (Arc (toZ w32 radius) (toZ w32 angle) (toZ w32 step) count) start hits (lent list₀) count) (lent list) made k
 
 abbrev μ-loop : tie.MeasureT-loop
-μ-loop list₀ frame with start hits radius angle step count degrees sines cosines made₀ k₀ list made k = count - k
+μ-loop list₀ frame tooling start hits radius angle step count degrees sines cosines made₀ k₀ list made k = count - k
 
 -- the function's entry, seen from the loop's head
 abbrev entry : tie.At-loop Inv-loop μ-loop → tie.Start Inv-loop μ-loop
@@ -33,7 +33,7 @@ entry c = c .before .before .before .before
 abbrev arc : tie.Start Inv-loop μ-loop → Series
 arc c =
     let a = c .args in
-    seriesOf (a .frame) (a .with) (Arc (toZ w32 (ofZ w32 (a .radius))) (toZ w32 (ofZ w32 (a .angle))) (toZ w32 (ofZ w32 (a .step))) (a .count)) (a .start) (a .hits) (lent (a .list .now)) (a .count)
+    seriesOf (a .frame) (a .tooling) (Arc (toZ w32 (ofZ w32 (a .radius))) (toZ w32 (ofZ w32 (a .angle))) (toZ w32 (ofZ w32 (a .step))) (a .count)) (a .start) (a .hits) (lent (a .list .now)) (a .count)
 
 -- a turn of the loop, seen from its place
 abbrev turn : tie.After-arc-place Inv-loop μ-loop → tie.In-loop Inv-loop μ-loop

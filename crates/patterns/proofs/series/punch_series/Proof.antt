@@ -1,5 +1,5 @@
 -- Each kind of pattern has its function, and its numbers are read back from the words that held them. Assumes nothing.
-use mathlib.Core.Path.{_≡_, sym, ap, _∙_}
+use mathlib.Core.Path.{sym, ap, _∙_}
 use mir.Syntax.{w32}
 use Rattle.signed.proofs.Integers.{read-back}
 use Rattle.aries.specs.Patterns.{reaches}
