@@ -2,9 +2,9 @@
 use borrow.Author.Needs.{needs}
 use Prim.Native.Nat.{_≤_}
 use native.Mathlib.Omega.{arith}
-use Rattle.copies.proofs.CopyPlace.{count-fits}
-use Rattle.copies.proofs.places.copy_count.Statement.{statement}
-use Rattle.copies.proofs.places.copy_count.Tie as tie
+use Rattle.placing.proofs.CopyPlace.{count-fits}
+use Rattle.placing.proofs.copy_count.Statement.{statement}
+use Rattle.placing.proofs.copy_count.Tie as tie
 
 cast-result : tie.Need-cast-result
 cast-result c = search needs

@@ -4,11 +4,12 @@ use mathlib.Core.Path.{_≡_, ap, _∙_}
 use Prim.Native.Nat.{ℕ, _≤_}
 use native.Mathlib.Omega.{arith}
 use Rattle.aries.specs.Lanes.{along}
+use Rattle.aries.proofs.Lanes.{along-bound}
 use Rattle.lanes.specs.Cursors.{passed}
-use Rattle.copies.specs.Copying.{laneEnd}
-use Rattle.copies.proofs.CopyPlace.{lane-few, place-vertical, place-level, ends-vertical, ends-level, along-inside}
-use Rattle.copies.proofs.places.copy_place.Statement.{statement}
-use Rattle.copies.proofs.places.copy_place.Tie as tie
+use Rattle.placing.specs.Places.{laneEnd}
+use Rattle.placing.proofs.CopyPlace.{lane-few, place-vertical, place-level}
+use Rattle.placing.proofs.copy_place.Statement.{statement}
+use Rattle.placing.proofs.copy_place.Tie as tie
 
 lane-end-requires : tie.Need-lane-end-requires
 lane-end-requires c κs = search needs
@@ -38,29 +39,27 @@ along-is c =
 
 place-at-requires : tie.Need-place-at-requires
 place-at-requires c κs =
-    let a = c .before .before .before .before .args in
-    let e = ends-vertical (a .layout) (a .copies) (c .if1 .taken) in
-    let h = along-inside (laneEnd (a .layout) (a .copies)) (a .cursor) (c .before .before .before .before .pre .0) in
-    omega (arith, e, along-is (c .before), c .before .before .before .before .pre)
+    let a = c .before .before .before .before in
+    let v = c .if1 .taken in
+    (simp v at (a .pre .1), rw (along-is (c .before)) (simp v (along-bound _ _)))
 
 place-at-requires-2 : tie.Need-place-at-requires-2
 place-at-requires-2 c κs =
-    let a = c .before .before .before .before .args in
-    let e = ends-level (a .layout) (a .copies) (c .if1 .left) in
-    let h = along-inside (laneEnd (a .layout) (a .copies)) (a .cursor) (c .before .before .before .before .pre .0) in
-    omega (arith, e, along-is (c .before), c .before .before .before .before .pre)
+    let a = c .before .before .before .before in
+    let v = c .if1 .left in
+    (rw (along-is (c .before)) (simp v (along-bound _ _)), simp v at (a .pre .1))
 
 returns : tie.Need-returns
 returns c =
-    let a = c .before .before .before .before .before .args in
-    c .place-at .ensures
-    ∙ place-vertical (a .origin) (a .layout) (a .copies) (a .cursor) (c .before .before .along .result) (c .before .before .before .before .before .pre .0) (along-is (c .before .before)) (c .before .if1 .taken)
+    let s = c .before .before .before .before .before in
+    let a = s .args in
+    c .place-at .ensures ∙ place-vertical (a .origin) (a .layout) (a .copies) (a .cursor) (s .pre .0) (along-is (c .before .before)) (c .before .if1 .taken)
 
 returns-2 : tie.Need-returns-2
 returns-2 c =
-    let a = c .before .before .before .before .before .args in
-    c .place-at2 .ensures
-    ∙ place-level (a .origin) (a .layout) (a .copies) (a .cursor) (c .before .before .along .result) (c .before .before .before .before .before .pre .0) (along-is (c .before .before)) (c .before .if1 .left)
+    let s = c .before .before .before .before .before in
+    let a = s .args in
+    c .place-at2 .ensures ∙ place-level (a .origin) (a .layout) (a .copies) (a .cursor) (s .pre .0) (along-is (c .before .before)) (c .before .if1 .left)
 
 pub copy-place-spec : {M : Type 1} → statement M
 copy-place-spec =

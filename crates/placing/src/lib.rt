@@ -1,19 +1,22 @@
+// The places of a layout: where its copies lie, and in which order.
 use aries::block::Copies;
 use aries::block::Layout;
+use aries::point::Located;
 use aries::point::Place;
 use aries::point::Point;
 use lanes::Cursor;
 ghost use mathlib.Core.Path.{_≡_};
-ghost use Prim.Native.Nat.{suc, _≤_, _<_};
-ghost use lib.Dec.{ltb};
-ghost use Rattle.aries.specs.Lanes.{lane};
+ghost use Prim.Native.Nat.{_*_, _≤_};
+ghost use lib.IntN.{pos, _+ℤ_};
+ghost use Rattle.aries.specs.Judging.{near};
 ghost use Rattle.aries.specs.Layouts.{copyCount, fromRight, fromTop, facing, placeAt, copyPlace};
 ghost use Rattle.aries.specs.Places.{pointOf};
-ghost use Rattle.aries.specs.Test.{pick};
-ghost use Rattle.lanes.specs.Cursors.{cursorAt, passed};
-ghost use Rattle.copies.specs.Copying.{laneEnd, lastLane};
+ghost use Rattle.lanes.specs.Cursors.{passed};
+ghost use Rattle.placing.specs.Places.{laneEnd, lastLane, allNear, lastCopy};
 
-// The corners other than the lower left one, by Q.
+// The corners, by Q.
+const LOWER_LEFT: u8 = 1;
+
 const LOWER_RIGHT: u8 = 2;
 
 const UPPER_LEFT: u8 = 3;
@@ -34,6 +37,18 @@ pub fn lane_end(layout: Layout, copies: Copies) -> u16
 {
     let steps = layout.steps;
     if copies.vertical { steps.y } else { steps.x }
+}
+
+// The last lane.
+fn last_lane(layout: Layout, copies: Copies) -> u32
+    ensures { λ r. ⌜ r ≡ lastLane layout copies ⌝ }
+{
+    let steps = layout.steps;
+    if copies.vertical {
+        steps.x as u32
+    } else {
+        steps.y as u32
+    }
 }
 
 // Whether the first place is at the right.
@@ -58,12 +73,16 @@ fn from_top(corner: u8) -> bool
     }
 }
 
-// A count of steps as counted from the far end, or from the near one.
-fn facing(far: bool, last: u16, n: u16) -> u16
+// A coordinate of a place: so many pitches from the origin, counted from the near end or from the far one.
+fn coordinate(origin: i32, far: bool, last: u16, n: u16, pitch: u32) -> i64
     requires { ⌜ n ≤ last ⌝ }
-    ensures { λ r. ⌜ r ≡ facing far last n ⌝ }
+    ensures { λ r. ⌜ r ≡ origin +ℤ pos (facing far last n * pitch) ⌝ }
 {
-    if far { last - n } else { n }
+    if far {
+        signed::scaled(origin, last - n, pitch)
+    } else {
+        signed::scaled(origin, n, pitch)
+    }
 }
 
 // The place of a column and a row, counted from the corner where the run starts.
@@ -73,13 +92,9 @@ fn place_at(origin: Point, layout: Layout, corner: u8, column: u16, row: u16) ->
 {
     let steps = layout.steps;
     let pitch = layout.pitch;
-    let right = facing(from_right(corner), steps.x, column);
-    let up = facing(from_top(corner), steps.y, row);
-    let x = origin.x;
-    let y = origin.y;
     Place {
-        x: signed::scaled(x, right, pitch.x),
-        y: signed::scaled(y, up, pitch.y),
+        x: coordinate(origin.x, from_right(corner), steps.x, column, pitch.x),
+        y: coordinate(origin.y, from_top(corner), steps.y, row, pitch.y),
     }
 }
 
@@ -99,11 +114,40 @@ pub fn copy_place(origin: Point, layout: Layout, copies: Copies, cursor: Cursor)
     }
 }
 
-// The cursor of copy m, from that of the copy before it. Past the last copy it stays.
-pub fn advance(cursor: Cursor, last: u16, m: u64, count: u64) -> Cursor
-    requires { ⌜ cursor .rest ≤ last ⌝ }
-    requires { ⌜ (m < count → lane last (suc (passed last cursor)) ≤ 65535) ⌝ }
-    ensures { λ r. ⌜ r ≡ pick (ltb m count) (cursorAt last (suc (passed last cursor))) cursor ⌝ }
+// Whether 15 lets a place pass.
+fn is_near(place: Place) -> bool
+    ensures { λ r. ⌜ r ≡ near (pointOf place) ⌝ }
 {
-    if m < count { cursor.next(last) } else { cursor }
+    let located = place.located();
+    match located {
+        Located::At(_) => true,
+        Located::TooFar => false,
+    }
+}
+
+// Whether all places are near: the lower left one and the upper right one are, and the others lie between them.
+fn all_near(origin: Point, layout: Layout) -> bool
+    ensures { λ r. ⌜ r ≡ allNear origin layout ⌝ }
+{
+    let steps = layout.steps;
+    if is_near(place_at(origin, layout, LOWER_LEFT, 0, 0)) {
+        is_near(place_at(origin, layout, LOWER_LEFT, steps.x, steps.y))
+    } else {
+        false
+    }
+}
+
+// The place of the last copy, if all places are near.
+pub fn last_copy(origin: Point, layout: Layout, copies: Copies) -> Located
+    ensures { λ r. ⌜ r ≡ lastCopy origin layout copies ⌝ }
+{
+    if all_near(origin, layout) {
+        let last = Cursor {
+            lane: last_lane(layout, copies),
+            rest: lane_end(layout, copies),
+        };
+        copy_place(origin, layout, copies, last).located()
+    } else {
+        Located::TooFar
+    }
 }
