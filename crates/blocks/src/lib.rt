@@ -1,5 +1,6 @@
 // From the words of a block to what it asks for: its kind, refusals 5 and 6, and the block of its kind.
-ghost use Rattle.blocks.specs.Decoding.{decodeWords, Judges};
+ghost use mathlib.Core.Path.{_≡_};
+ghost use Rattle.blocks.specs.Decoding.{judgedOf};
 ghost use Rattle.words.specs.Keeping.{wordsWith};
 use aries::block::Judged;
 use aries::refusal;
@@ -13,7 +14,7 @@ pub mod request; // what a block asks for
 
 // The kind of a block and its G90 or G91, or refusal 5 or 6.
 pub fn judge(forms: &[u8; 26], numbers: &[i32; 26], tally: Tally) -> Judged
-    ensures { λ r. ⌜ Judges (decodeWords (wordsWith (now (forms .entry)) (now (numbers .entry)) tally)) (wordsWith (now (forms .entry)) (now (numbers .entry)) tally) r ⌝ }
+    ensures { λ r. ⌜ r ≡ judgedOf (wordsWith (now (forms .entry)) (now (numbers .entry)) tally) ⌝ }
 {
     let kind = kind::kind_of(forms, numbers, tally);
     if !letters::is_listed(forms, numbers, tally, kind) {

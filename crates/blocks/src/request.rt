@@ -15,9 +15,11 @@ use aries::block::Axes;
 use aries::block::Axis;
 use aries::block::Block;
 use aries::block::Copies;
+use aries::block::Direct;
 use aries::block::Kind;
 use aries::block::Layout;
 use aries::block::Measure;
+use aries::block::Outside;
 use aries::block::Pattern;
 use aries::block::Pitch;
 use aries::block::Steps;
@@ -192,7 +194,7 @@ fn run_of(forms: &[u8; 26], numbers: &[i32; 26], p: Pattern) -> Block
 {
     let tool = small(word_at(forms, numbers, b'T'));
     let memory = small(word_at(forms, numbers, b'A'));
-    Block::Run(p, tool, memory)
+    Block::Direct(Direct::Run(p, tool, memory))
 }
 
 // An M code: M12 and M13 set the mode, the others make no hit.
@@ -200,12 +202,12 @@ fn m_block(n: u32) -> Block
     ensures { λ r. ⌜ r ≡ mBlock n ⌝ }
 {
     if n == 12 {
-        return Block::Nibble(true);
+        return Block::Direct(Direct::Nibble(true));
     }
     if n == 13 {
-        return Block::Nibble(false);
+        return Block::Direct(Direct::Nibble(false));
     }
-    Block::Idle
+    Block::Direct(Direct::Idle)
 }
 
 // What a block of a kind asks for.
@@ -220,28 +222,28 @@ pub fn block_of(forms: &[u8; 26], numbers: &[i32; 26], kind: Kind) -> Block
         Kind::G29 => run_of(forms, numbers, arc_of(forms, numbers)),
         Kind::G36 => run_of(forms, numbers, grid_of(forms, numbers, false)),
         Kind::G37 => run_of(forms, numbers, grid_of(forms, numbers, true)),
-        Kind::G50 => Block::End,
-        Kind::G70 => Block::Move(
+        Kind::G50 => Block::Outside(Outside::End),
+        Kind::G70 => Block::Direct(Direct::Move(
             axes_of(forms, numbers),
             small(word_at(forms, numbers, b'T')),
-        ),
-        Kind::G72 => Block::Origin(axes_of(forms, numbers)),
-        Kind::G75 => Block::Copy(copies_of(forms, numbers, false)),
-        Kind::G76 => Block::Copy(copies_of(forms, numbers, true)),
-        Kind::G92 => Block::Machine(point_of(forms, numbers)),
-        Kind::G93 => Block::Offset(axes_of(forms, numbers)),
-        Kind::G98 => Block::Place(layout_of(forms, numbers)),
-        Kind::Position => Block::Punch(
+        )),
+        Kind::G72 => Block::Direct(Direct::PatternOrigin(axes_of(forms, numbers))),
+        Kind::G75 => Block::Outside(Outside::Copy(copies_of(forms, numbers, false))),
+        Kind::G76 => Block::Outside(Outside::Copy(copies_of(forms, numbers, true))),
+        Kind::G92 => Block::Outside(Outside::Machine(point_of(forms, numbers))),
+        Kind::G93 => Block::Outside(Outside::Offset(axes_of(forms, numbers))),
+        Kind::G98 => Block::Outside(Outside::Layout(layout_of(forms, numbers))),
+        Kind::Position => Block::Direct(Direct::Punch(
             axes_of(forms, numbers),
             small(word_at(forms, numbers, b'T')),
-        ),
-        Kind::Lone => Block::Read,
+        )),
+        Kind::Lone => Block::Direct(Direct::Lone),
         Kind::LetterM => m_block(size_of(word_at(forms, numbers, b'M'))),
-        Kind::LetterB => Block::Recall(small(word_at(forms, numbers, b'B'))),
-        Kind::LetterU => Block::Open(small(word_at(forms, numbers, b'U'))),
-        Kind::LetterV => Block::Close(small(word_at(forms, numbers, b'V'))),
+        Kind::LetterB => Block::Direct(Direct::Recall(small(word_at(forms, numbers, b'B')))),
+        Kind::LetterU => Block::Outside(Outside::Open(small(word_at(forms, numbers, b'U')))),
+        Kind::LetterV => Block::Outside(Outside::Close(small(word_at(forms, numbers, b'V')))),
         Kind::LetterW => Block::Call(small(word_at(forms, numbers, b'W'))),
-        Kind::Unknown => Block::Idle,
+        Kind::Unknown => Block::Direct(Direct::Idle),
     }
 }
 

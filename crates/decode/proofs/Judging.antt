@@ -1,61 +1,87 @@
--- Laws of judging a line: from what its words are judged to be, and what a caller learns.
--- Assumes nothing.
-use mathlib.Core.Path.{_≡_, sym, ap, _∙_, subst}
+-- Laws of judging a line, from its words in two lists and a tally.
+use mathlib.Core.Path.{_≡_, refl, sym, ap, ap₂, _∙_}
+use mathlib.Core.Bool.{Bool, true, false}
 use mathlib.Core.List.{List}
-use mathlib.Core.Option.{some}
+use mathlib.Core.Option.{Option, none, some}
 use Prim.Native.Nat.{ℕ}
+use native.Mathlib.Omega.{arith}
 use lib.IntN.{ℤ}
-use Rattle.aries.specs.declared.word.Words.{Words}
-use Rattle.aries.specs.declared.block.Block.{Block}
+use Rattle.aries.specs.declared.block.Instruction.{Instruction}
 use Rattle.aries.specs.declared.block.Judged.{Judged}
-use Rattle.aries.specs.declared.block.Judged.the-variants.{Of, Refused}
+use Rattle.aries.specs.declared.block.Judged.the-variants as Judged
 use Rattle.aries.specs.declared.block.Kind.{Kind}
 use Rattle.aries.specs.declared.block.Measure.{Measure}
-use Rattle.aries.specs.Outcome.{done, refused}
+use Rattle.aries.specs.declared.word.Words.{Words}
+use Rattle.aries.specs.Outcome.{Checked, passes, fails}
+use Rattle.aries.specs.Test.{pick}
 use Rattle.aries.specs.Words.{words}
-use Rattle.aries.specs.Blocks.{blockOf, decode}
+use Rattle.aries.specs.Blocks.{kindOf, isListed, isRanged, blockOf, measureOf, instructionOf, decodeWords, decoded, decode}
 use Rattle.words.specs.declared.Tally.{Tally}
 use Rattle.words.specs.Keeping.{lettersOf, wordsWith, wordsOf, noTally}
 use Rattle.blocks.specs.Clean.{Clean}
-use Rattle.blocks.specs.Decoding as blocks
-use Rattle.blocks.specs.Decoding.{decodeWords, Instructs}
+use Rattle.blocks.specs.Decoding.{judgedOf}
 use Rattle.blocks.proofs.Alone.{same-block, same-ranges, same-clean}
-use Rattle.decode.specs.Judging.{Judges}
 use Rattle.decode.proofs.CleanWords.{words-clean}
-use Rattle.decode.proofs.Outcomes.{decode-formed}
 
-module _ (bytes forms : List ℕ) (numbers : List ℤ) where
-  -- a line whose words are in the two lists and a tally: as its words are judged
-  module _ (t : Tally) (e : words bytes ≡ some (wordsWith forms numbers t)) where
-    abbrev found : Words
-    found = wordsWith forms numbers t
+-- ---- Words that are judged
 
-    pub judged-words : (r : Judged) → blocks.Judges (decodeWords found) found r → Judges bytes r forms numbers
-    judged-words (Of k m) h = (
-      record {
-        decoded = λ line.
-            decode-formed bytes line found e
-            ∙ h .decoded line
-            ∙ ap (λ (b : Block). done (record { measure = m; block = b })) (same-block (lettersOf forms numbers) t noTally k);
-        ranged = sym (same-ranges (lettersOf forms numbers) t noTally k) ∙ h .ranged;
-      },
-      same-clean (lettersOf forms numbers) t noTally (words-clean bytes found e),
-    )
-    judged-words (Refused n) h = λ line. decode-formed bytes line found e ∙ h line
+-- a kind and its G90 or G91: the words pass both tests, and have the instruction of that kind
+pub record JudgedOf (w : Words) (k : Kind) (m : Measure) : Type 0 where
+  pub ranged : isRanged w k ≡ true
+  pub decodes : decodeWords w ≡ passes (record { measure = m; block = blockOf w k })
 
-  -- what a caller learns where it is an instruction, and where not
-  module _ (r : Judged) (h : Judges bytes r forms numbers) where
-    pub judged-of :
-        (k : Kind) (m : Measure) → r ≡ Of k m
-        → Instructs (decode bytes) (wordsOf forms numbers) k m × Clean (wordsOf forms numbers)
-    judged-of k m e = subst (λ (j : Judged). Judges bytes j forms numbers) e h
+pub judged-of : (w : Words) (k : Kind) (m : Measure) → judgedOf w ≡ Judged.Of k m → JudgedOf w k m
+unfolding decodeWords
+judged-of w k m e = go (isListed w (kindOf w)) (isRanged w (kindOf w)) refl refl
+  where
+    go : (l r : Bool) → isListed w (kindOf w) ≡ l → isRanged w (kindOf w) ≡ r → JudgedOf w k m
+    go true true p q =
+        let j : Judged.Of (kindOf w) (measureOf w) ≡ Judged.Of k m = sym (simp (p, q)) ∙ e in
+        let a : kindOf w ≡ k = cc in
+        let b : measureOf w ≡ m = cc in
+        record { ranged = rw (sym a) q; decodes = simp (p, q) (ap₂ (λ (m : Measure) (k : Kind). passes (record { measure = m; block = blockOf w k })) b a) }
+    go true false p q = let j : Judged.Refused 6 ≡ Judged.Of k m = sym (simp (p, q)) ∙ e in let z : _≡_ {A = ℕ} 0 1 = cc in absurd (omega arith)
+    go false r p q = let j : Judged.Refused 5 ≡ Judged.Of k m = sym (simp p) ∙ e in let z : _≡_ {A = ℕ} 0 1 = cc in absurd (omega arith)
 
-    pub judged-refused : (n : ℕ) → r ≡ Refused n → (line : ℕ) → decode bytes line ≡ refused n line
-    judged-refused n e = subst (λ (j : Judged). Judges bytes j forms numbers) e h
+-- a refusal
+pub judged-refused : (w : Words) (n : ℕ) → judgedOf w ≡ Judged.Refused n → decodeWords w ≡ fails n
+unfolding decodeWords
+judged-refused w n e = go (isListed w (kindOf w)) (isRanged w (kindOf w)) refl refl
+  where
+    go : (l r : Bool) → isListed w (kindOf w) ≡ l → isRanged w (kindOf w) ≡ r → decodeWords w ≡ fails n
+    go true true p q =
+        let j : Judged.Of (kindOf w) (measureOf w) ≡ Judged.Refused n = sym (simp (p, q)) ∙ e in
+        let z : _≡_ {A = ℕ} 0 1 = cc in
+        absurd (omega arith)
+    go true false p q = let j : Judged.Refused 6 ≡ Judged.Refused n = sym (simp (p, q)) ∙ e in let a : 6 ≡ n = cc in simp (p, q, a)
+    go false r p q = let j : Judged.Refused 5 ≡ Judged.Refused n = sym (simp p) ∙ e in let a : 5 ≡ n = cc in simp (p, a)
 
-    -- with the block of the kind
-    pub judged-block :
-        (k : Kind) (m : Measure) (b : Block) (line : ℕ) → r ≡ Of k m → b ≡ blockOf (wordsOf forms numbers) k
-        → decode bytes line ≡ done (record { measure = m; block = b })
-    judged-block k m b line e f =
-        judged-of k m e .0 .decoded line ∙ ap (λ (x : Block). done (record { measure = m; block = x })) (sym f)
+-- ---- A line
+
+-- its words have not all the form
+pub decode-malformed : (bs : List ℕ) → words bs ≡ none → decode bs ≡ fails 4
+unfolding decode
+decode-malformed bs e = ap decoded e
+
+-- its words stand in two lists and a tally
+module _ (bs : List ℕ) (forms : List ℕ) (numbers : List ℤ) (t : Tally) (e : words bs ≡ some (wordsWith forms numbers t)) where
+  decode-formed : decode bs ≡ decodeWords (wordsWith forms numbers t)
+  unfolding decode
+  decode-formed = ap decoded e
+
+  -- the lists alone, without the tally
+  pub line-clean : Clean (wordsOf forms numbers)
+  line-clean = same-clean (lettersOf forms numbers) t noTally (words-clean bs (wordsWith forms numbers t) e)
+
+  module _ (k : Kind) (m : Measure) (j : judgedOf (wordsWith forms numbers t) ≡ Judged.Of k m) where
+    pub line-ranged : isRanged (wordsOf forms numbers) k ≡ true
+    line-ranged = sym (same-ranges (lettersOf forms numbers) t noTally k) ∙ judged-of (wordsWith forms numbers t) k m j .ranged
+
+    pub line-decodes : decode bs ≡ passes (record { measure = m; block = blockOf (wordsOf forms numbers) k })
+    line-decodes =
+        decode-formed
+        ∙ judged-of (wordsWith forms numbers t) k m j .decodes
+        ∙ ap (λ (b : _). passes (record { measure = m; block = b })) (same-block (lettersOf forms numbers) t noTally k)
+
+  pub line-refused : (n : ℕ) → judgedOf (wordsWith forms numbers t) ≡ Judged.Refused n → decode bs ≡ fails n
+  line-refused n j = decode-formed ∙ judged-refused (wordsWith forms numbers t) n j

@@ -1,4 +1,2 @@
 pub mod CleanWords
-pub mod CloseLines
-pub mod Outcomes
 pub mod Judging

@@ -1,4 +1,4 @@
+pub mod Located
 pub mod Move
-pub mod Position
+pub mod PatternOrigin
 pub mod Punch
-pub mod SetOrigin

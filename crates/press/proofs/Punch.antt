@@ -1,78 +1,89 @@
--- Laws of a hit: its number, one law for each way out; `punch` by that number; and what has been carried out with it.
+-- Laws of a hit: what is judged of it, one law for each way out; `punch` by that; and what has been carried out with it.
 use mathlib.Core.Path.{_≡_, refl, sym, ap, _∙_}
 use mathlib.Core.Bool.{Bool, true, false}
-use mathlib.Core.List.{List}
-use Prim.Native.Nat.{ℕ, zero, suc, _+_, _*_, _/_, _<_, _≤_}
+use mathlib.Core.Option.{some}
+use Prim.Native.Nat.{ℕ, _+_, _≤_, _<_}
 use native.Mathlib.Omega.{arith}
 use lib.Dec.{ltb}
-use lib.IntN.{ℤ}
-use lib.ListN.{length}
 use borrow.Author.Tests.{lt-ltb, le-ltb, ltb-true}
-use Rattle.aries.specs.declared.machine.Machine.{Machine}
 use Rattle.aries.specs.declared.point.Point.{Point}
 use Rattle.aries.specs.declared.state.Frame.{Frame}
 use Rattle.aries.specs.declared.state.Progress.{Progress}
-use Rattle.aries.specs.declared.state.Status.the-variants.{Passed, Refused}
+use Rattle.aries.specs.declared.state.Status.the-variants as Status
+use Rattle.press.specs.declared.hits.Judged.{Judged}
+use Rattle.press.specs.declared.hits.Judged.the-variants.{Made, Refused}
 use Rattle.aries.specs.Outcome.{Out, done, refused, _>>=_, need}
 use Rattle.aries.specs.Test.{pick}
-use Rattle.aries.specs.Judging.{lent, near}
-use Rattle.aries.specs.Machine.{covers}
-use Rattle.aries.specs.Hits.{Made}
-use Rattle.aries.specs.Moves.{hitOf, hitting, punch}
-use Rattle.aries.specs.Runs.{over, Ran}
-use Rattle.aries.proofs.Judging.{covers-near}
-use Rattle.aries.proofs.Runs.{ran-as, ran-refused, ran-made}
-use Rattle.press.specs.Hits.{hitNumber, listAfter, byNumber}
+use Rattle.aries.specs.Judging.{limits, room, near}
+use Rattle.aries.specs.Machine.{inRange}
+use Rattle.aries.specs.Hits as Hits
+use Rattle.aries.specs.Moves.{hitting, punch}
+use Rattle.aries.specs.Runs.{Lent, over, hitsMade, Ran}
+use Rattle.aries.proofs.Runs.{ran-refused, ran-made}
+use Rattle.press.specs.Hits.{judgedHit, listAfter}
 
--- ---- The number of a hit
+-- ---- What is judged of a hit
 
--- the number by its four tests
-abbrev chosen : Bool → Bool → Bool → Bool → ℕ
-chosen t n c r = pick t (pick n (pick c (pick r 0 17) 16) 15) 14
+-- what is judged by the four tests
+abbrev chosen : Point → Bool → Bool → Bool → Bool → Judged
+chosen p t n c r = pick t (pick n (pick c (pick r (Made p) (Refused 17)) (Refused 16)) (Refused 15)) (Refused 14)
 
-module _ (numbers : ℕ) (m : Machine) (p : Point) (tool hits : ℕ) where
+module _ (f : Frame) (p : Point) (tool hits : ℕ) where
   -- 14
-  pub number-no-tool : tool ≡ 0 → hitNumber numbers m p tool hits ≡ 14
-  unfolding hitNumber
-  number-no-tool t = simp (le-ltb 0 tool (omega arith))
+  pub hit-no-tool : tool ≡ 0 → Refused 14 ≡ judgedHit f p tool hits
+  unfolding judgedHit
+  hit-no-tool t = simp (le-ltb 0 tool (omega arith))
+
+  -- 15 or 16, out of the range
+  pub hit-outside : 0 < tool → inRange f p ≡ false → Refused (pick (near p) 16 15) ≡ judgedHit f p tool hits
+  unfolding judgedHit
+  hit-outside t c = simp (lt-ltb 0 tool t, c) (go (near p))
+    where
+      go : (n : Bool) → Refused (pick n 16 15) ≡ pick n (Refused 16) (Refused 15)
+      go true = refl
+      go false = refl
 
   -- 15
-  pub number-too-far : 0 < tool → near p ≡ false → hitNumber numbers m p tool hits ≡ 15
-  unfolding hitNumber
-  number-too-far t n = simp (lt-ltb 0 tool t, n)
+  pub hit-too-far : 0 < tool → near p ≡ false → Refused 15 ≡ judgedHit f p tool hits
+  unfolding judgedHit
+  hit-too-far t n = simp (lt-ltb 0 tool t, n)
 
-  -- 16
-  pub number-out-of-range : 0 < tool → near p ≡ true → covers m p ≡ false → hitNumber numbers m p tool hits ≡ 16
-  unfolding hitNumber
-  number-out-of-range t n c = simp (lt-ltb 0 tool t, n, c)
-
-  -- 17; what the machine covers is near
-  pub number-full : 0 < tool → covers m p ≡ true → numbers / 4 ≤ hits → hitNumber numbers m p tool hits ≡ 17
-  unfolding hitNumber
-  number-full t c r = simp (lt-ltb 0 tool t, covers-near m p c, c, le-ltb hits (numbers / 4) r)
+  -- 17
+  pub hit-full : 0 < tool → near p ≡ true → inRange f p ≡ true → f .job .places ≤ hits → Refused 17 ≡ judgedHit f p tool hits
+  unfolding judgedHit
+  hit-full t n c r = simp (lt-ltb 0 tool t, n, c, le-ltb hits (f .job .places) r)
 
   -- a hit
-  pub number-none : 0 < tool → covers m p ≡ true → hits < numbers / 4 → hitNumber numbers m p tool hits ≡ 0
-  unfolding hitNumber
-  number-none t c r = simp (lt-ltb 0 tool t, covers-near m p c, c, lt-ltb hits (numbers / 4) r)
+  pub hit-passes : 0 < tool → near p ≡ true → inRange f p ≡ true → hits < f .job .places → Made p ≡ judgedHit f p tool hits
+  unfolding judgedHit
+  hit-passes t n c r = simp (lt-ltb 0 tool t, n, c, lt-ltb hits (f .job .places) r)
 
--- where no test fails, all hold
-all-hold : (t n c r : Bool) → chosen t n c r ≡ 0 → (n ≡ true) × (r ≡ true)
-all-hold true true true true e = (refl, refl)
-all-hold true true true false e = absurd (omega (arith, e))
-all-hold true true false r e = absurd (omega (arith, e))
-all-hold true false c r e = absurd (omega (arith, e))
-all-hold false n c r e = absurd (omega (arith, e))
+  -- a hit that is made has a place in the list
+  pub hit-fits : (q : Point) → Made q ≡ judgedHit f p tool hits → hits < f .job .places
+  unfolding judgedHit
+  hit-fits q e =
+      ltb-true hits (f .job .places) (go (ltb 0 tool) (near p) (inRange f p) (ltb hits (f .job .places)) e)
+    where
+      go : (t n c r : Bool) → Made q ≡ chosen p t n c r → r ≡ true
+      go true true true true h = refl
+      go true true true false h = let z : _≡_ {A = ℕ} 0 1 = cc in absurd (omega arith)
+      go true true false r h = let z : _≡_ {A = ℕ} 0 1 = cc in absurd (omega arith)
+      go true false c r h = let z : _≡_ {A = ℕ} 0 1 = cc in absurd (omega arith)
+      go false n c r h = let z : _≡_ {A = ℕ} 0 1 = cc in absurd (omega arith)
 
--- ---- `punch` by that number
+-- ---- `punch` by what is judged
 
-pub punch-by-number : (numbers : ℕ) (f : Frame) (line : ℕ) (p : Point) (g : Progress)
-    → punch (lent numbers) f line p g ≡ byNumber (hitNumber numbers (f .machine) p (g .state .tool) (g .hits)) line (hitting g p)
-unfolding punch hitNumber
-punch-by-number numbers f line p g =
-    go (ltb 0 (g .state .tool)) (near p) (covers (f .machine) p) (ltb (g .hits) (numbers / 4))
+abbrev byJudged : Judged → ℕ → Progress → Out (Hits.Made Progress)
+byJudged (Made p) line g = done (hitting g p)
+byJudged (Refused number) line g = refused number line
+
+punch-by-judged : (f : Frame) (line : ℕ) (p : Point) (g : Progress)
+    → punch (limits (f .job)) f line p g ≡ byJudged (judgedHit f p (g .state .tool) (g .hits)) line g
+unfolding punch judgedHit
+punch-by-judged f line p g =
+    go (ltb 0 (g .state .tool)) (near p) (inRange f p) (ltb (g .hits) (f .job .places))
   where
-    judging : Bool → Bool → Bool → Bool → Out (Made Progress)
+    judging : Bool → Bool → Bool → Bool → Out (Hits.Made Progress)
     judging t n c r = do
       _ ← need t 14 line
       _ ← need n 15 line
@@ -80,51 +91,26 @@ punch-by-number numbers f line p g =
       _ ← need r 17 line
       done (hitting g p)
 
-    go : (t n c r : Bool) → judging t n c r ≡ byNumber (chosen t n c r) line (hitting g p)
+    go : (t n c r : Bool) → judging t n c r ≡ byJudged (chosen p t n c r) line g
     go false n c r = refl
     go true false c r = refl
     go true true false r = refl
     go true true true false = refl
     go true true true true = refl
 
--- ---- What has been carried out with a hit of this number
+-- ---- What has been carried out with it
 
-abbrev hitsOf : Progress → ℕ
-hitsOf g = g .hits
-
-module _ (f : Frame) (line : ℕ) (p : Point) (g : Progress) (before : List ℤ) (number : ℕ)
-    (is : number ≡ hitNumber (length before) (f .machine) p (g .state .tool) (g .hits)) where
-  comes-to : punch (lent (length before)) f line p g ≡ byNumber number line (hitting g p)
-  comes-to = punch-by-number (length before) f line p g ∙ ap (λ (n : ℕ). byNumber n line (hitting g p)) (sym is)
-
-  holds : number ≡ 0 → (near p ≡ true) × (ltb (g .hits) (length before / 4) ≡ true)
-  unfolding hitNumber
-  holds none = all-hold (ltb 0 (g .state .tool)) (near p) (covers (f .machine) p) (ltb (g .hits) (length before / 4)) (sym is ∙ none)
-
-  -- a hit that is not refused is near, and its four numbers lie in the list
-  pub hit-near : number ≡ 0 → near p ≡ true
-  hit-near none = holds none .0
-
-  pub hit-fits : number ≡ 0 → 4 * g .hits + 4 ≤ length before
-  hit-fits none = let h = ltb-true (g .hits) (length before / 4) (holds none .1) in omega arith
-
-  -- it is made where the list has it
-  pub hit-made : (after : List ℤ) → number ≡ 0 → after ≡ listAfter number before (g .hits) (hitOf (g .state) p)
-      → Ran hitsOf Passed (hitting g p .after) before after (g .hits) (punch (lent (length before)) f line p g)
+module _ (f : Frame) (line : ℕ) (p : Point) (g : Progress) {before after : Lent} where
+  -- a hit that is made, where the list has it
+  pub punch-made : (q : Point) → Made q ≡ judgedHit f p (g .state .tool) (g .hits)
+      → after ≡ listAfter (Made q) before (g .hits) (g .state .tool) (g .state .nibble)
+      → Ran hitsMade (f .job) Status.Passed (hitting g q .after) before after (g .hits) (punch (limits (f .job)) f line p g)
   unfolding over
-  hit-made after none written =
-      ran-as hitsOf Passed (hitting g p .after) before after (g .hits) (comes-to ∙ ap (λ (n : ℕ). byNumber n line (hitting g p)) none)
-      (ran-made hitsOf (hitting g p) before after (g .hits)
-      (written ∙ ap (λ (n : ℕ). listAfter n before (g .hits) (hitOf (g .state) p)) none)
-      refl (λ _. let h = hit-fits none in omega arith))
+  punch-made q is written =
+      rw (punch-by-judged f line p g ∙ ap (λ (j : Judged). byJudged j line g) (sym is))
+      (ran-made {m = hitting g q} written refl (λ _. let h = hit-fits f p (g .state .tool) (g .hits) q is in omega arith))
 
-  refuses : (n : ℕ) → 0 < n → byNumber n line (hitting g p) ≡ refused n line
-  refuses zero h = absurd (omega arith)
-  refuses (suc n) h = refl
-
-  -- and any other is refused, whatever is left
-  pub hit-refused : (left : Progress) (after : List ℤ) → 0 < number
-      → Ran hitsOf (Refused number line) left before after (g .hits) (punch (lent (length before)) f line p g)
-  hit-refused left after h =
-      ran-as hitsOf (Refused number line) left before after (g .hits) (comes-to ∙ refuses number h)
-      (ran-refused hitsOf left before after (g .hits) number line)
+  -- and one that is refused, whatever is left
+  pub punch-refused : {left : Progress} (number : ℕ) → Refused number ≡ judgedHit f p (g .state .tool) (g .hits)
+      → Ran hitsMade (f .job) (Status.Refused number line) left before after (g .hits) (punch (limits (f .job)) f line p g)
+  punch-refused number is = rw (punch-by-judged f line p g ∙ ap (λ (j : Judged). byJudged j line g) (sym is)) ran-refused

@@ -1,4 +1,5 @@
-use aries::machine::Machine;
+use aries::job;
+use aries::point::Located;
 use aries::point::Place;
 use aries::point::Point;
 use aries::refusal;
@@ -6,18 +7,20 @@ use aries::state::Frame;
 use aries::state::Outcome;
 use aries::state::Progress;
 ghost use mathlib.Core.Path.{_≡_};
-ghost use Prim.Native.Nat.{_+_, _-_, _*_, _/_, _≤_};
 ghost use lib.IntN.{pos};
-ghost use lib.ListN.{length};
-ghost use Rattle.aries.specs.Places.{pointOf};
-ghost use Rattle.aries.specs.Judging.{lent};
 ghost use Rattle.aries.specs.Hits.{modeNumber};
+ghost use Rattle.aries.specs.Judging.{near};
 ghost use Rattle.aries.specs.Moves.{punch};
-ghost use Rattle.aries.specs.Runs.{put, Carried};
-ghost use Rattle.press.specs.Hits.{hitNumber, listAfter};
+ghost use Rattle.aries.specs.Places.{pointOf};
+ghost use Rattle.aries.specs.Runs.{lent, put, Carried};
+ghost use Rattle.aries.specs.Test.{pick};
+ghost use Rattle.press.specs.Hits.{judgedHit, listAfter};
 
-// The numbers of a hit in the list: X, Y, tool and mode.
-const NUMBERS: usize = 4;
+// What is judged of a hit: it is made at a point, or refused by a number.
+pub enum Judged {
+    Made(Point),
+    Refused(u8),
+}
 
 // The number of a mode: 1 for N, 0 for P.
 fn mode_number(nibble: bool) -> i32
@@ -33,74 +36,78 @@ fn tool_number(tool: u8) -> i32
     signed::of_count(tool as u16)
 }
 
-// How many places a list of so many numbers has left after so many hits; fewer than four at its end are none.
-fn places_left(numbers: usize, hits: usize) -> usize
-    ensures { λ r. ⌜ r ≡ numbers / 4 - hits ⌝ }
-{
-    let places = numbers / NUMBERS;
-    if hits < places { places - hits } else { 0 }
-}
-
-// Writes a hit at place k of the list.
-pub fn put_hit(list: &mut [i32], k: usize, p: Point, tool: u8, nibble: bool)
-    requires { ⌜ 4 * k + 4 ≤ length (now list) ⌝ }
-    ensures { λ r. ⌜ now (list .exit) ≡ put (now (list .entry)) k (record { place = p; tool = tool; nibble = nibble }) ⌝ }
+// Writes a hit at place k of the list, if the list has that place.
+fn put_hit(list: &mut [i32], k: usize, p: Point, tool: u8, nibble: bool)
+    ensures { λ r. ⌜ lent (now (list .exit)) ≡ put (lent (now (list .entry))) k (record { place = p; tool = tool; nibble = nibble }) ⌝ }
 {
     let x = p.x;
     let y = p.y;
     let number = tool_number(tool);
     let mode = mode_number(nibble);
-    let at = NUMBERS * k;
-    list[at] = x;
-    list[at + 1] = y;
-    list[at + 2] = number;
-    list[at + 3] = mode;
+    if k < list.len() / job::NUMBERS {
+        let at = job::NUMBERS * k;
+        list[at] = x;
+        list[at + 1] = y;
+        list[at + 2] = number;
+        list[at + 3] = mode;
+    }
 }
 
-// Makes a hit with a tool in a mode, after so many hits, or refuses it: the answer is the refusal's number, or 0.
-// The punching range lies within the limit of 15, so whatever the machine covers is near, and 15 is told from 16 only
-// where the range is left.
+// The refusal of a place that is out of the punching range: 15 where it is too far away, else 16.
+fn out_of_range(place: Place) -> u8
+    ensures { λ r. ⌜ r ≡ pick (near (pointOf place)) 16 15 ⌝ }
+{
+    let located = place.located();
+    match located {
+        Located::At(_) => refusal::OUT_OF_RANGE,
+        Located::TooFar => refusal::TOO_FAR,
+    }
+}
+
+// Makes a hit with a tool in a mode, after so many hits, or refuses it. The range is judged first: it lies within the
+// limit of 15, so that 15 and 16 are told apart only where it is left.
 pub fn hit(
     list: &mut [i32],
-    machine: Machine,
+    frame: Frame,
     place: Place,
     tool: u8,
     nibble: bool,
     hits: usize,
-) -> u8
-    ensures { λ r. ⌜ (r ≡ hitNumber (length (now (list .entry))) machine (pointOf place) tool hits) × (now (list .exit) ≡ listAfter r (now (list .entry)) hits (record { place = pointOf place; tool = tool; nibble = nibble })) ⌝ }
+) -> Judged
+    ensures { λ r. ⌜ (r ≡ judgedHit frame (pointOf place) tool hits) × (lent (now (list .exit)) ≡ listAfter r (lent (now (list .entry))) hits tool nibble) ⌝ }
 {
     if tool == 0 {
-        return refusal::NO_TOOL;
+        return Judged::Refused(refusal::NO_TOOL);
     }
-    if !machine.covers(place) {
-        if place.is_near() {
-            return refusal::OUT_OF_RANGE;
+    if !frame.covers(place) {
+        return Judged::Refused(out_of_range(place));
+    }
+    let located = place.located();
+    match located {
+        Located::TooFar => Judged::Refused(refusal::TOO_FAR),
+        Located::At(point) => {
+            if frame.job.places <= hits {
+                return Judged::Refused(refusal::LIST_FULL);
+            }
+            put_hit(list, hits, point, tool, nibble);
+            Judged::Made(point)
         }
-        return refusal::TOO_FAR;
     }
-    if places_left(list.len(), hits) == 0 {
-        return refusal::LIST_FULL;
-    }
-    put_hit(list, hits, place.point(), tool, nibble);
-    0
 }
 
 // Makes a hit with the state's tool and mode; the place becomes the current point.
 pub fn punch(list: &mut [i32], frame: Frame, line: u64, place: Place, progress: Progress) -> Outcome
-    ensures { λ r. ⌜ Carried r (now (list .entry)) (now (list .exit)) (progress .hits) (punch (lent (length (now (list .entry)))) frame line (pointOf place) progress) ⌝ }
+    ensures { λ r. ⌜ Carried r frame (lent (now (list .entry))) (lent (now (list .exit))) progress (λ j. punch j frame line (pointOf place)) ⌝ }
 {
     let state = progress.state;
-    let machine = frame.machine;
     let hits = progress.hits;
-    let number = hit(list, machine, place, state.tool, state.nibble, hits);
-    if 0 < number {
-        return Outcome::refused(number, line, progress);
+    let judged = hit(list, frame, place, state.tool, state.nibble, hits);
+    match judged {
+        Judged::Refused(number) => Outcome::refused(number, line, progress),
+        Judged::Made(point) => Outcome::passed(Progress {
+            state: state.moved_to(point),
+            blocks: progress.blocks,
+            hits: hits + 1,
+        }),
     }
-    let moved = state.moved_to(place.point());
-    Outcome::passed(Progress {
-        state: moved,
-        blocks: progress.blocks,
-        hits: hits + 1,
-    })
 }

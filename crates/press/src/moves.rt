@@ -1,6 +1,7 @@
 use crate::hits;
 use aries::block::Axes;
 use aries::block::Axis;
+use aries::point::Located;
 use aries::point::Place;
 use aries::refusal;
 use aries::state::Frame;
@@ -8,13 +9,9 @@ use aries::state::Outcome;
 use aries::state::Progress;
 use aries::state::State;
 ghost use mathlib.Core.Path.{_≡_};
-ghost use mathlib.Core.List.{List};
-ghost use lib.IntN.{ℤ};
-ghost use lib.ListN.{length};
 ghost use Rattle.aries.specs.Places.{pointOf};
-ghost use Rattle.aries.specs.Judging.{lent};
-ghost use Rattle.aries.specs.Moves.{axisTarget, target, position, move, setOrigin};
-ghost use Rattle.aries.specs.Runs.{Carried};
+ghost use Rattle.aries.specs.Moves.{axisTarget, target, position, move, setPatternOrigin};
+ghost use Rattle.aries.specs.Runs.{Lent, lent, Carried};
 
 // One axis of a position: an omitted one stays, else it is measured from the origin or, under G91, from the current
 // point.
@@ -33,7 +30,7 @@ fn axis_target(axis: Axis, incremental: bool, origin: i32, current: i32) -> i64
 }
 
 // The place that a block's X and Y name.
-pub fn target(frame: Frame, state: State, axes: Axes) -> Place
+fn target(frame: Frame, state: State, axes: Axes) -> Place
     ensures { λ r. ⌜ pointOf r ≡ target frame state axes ⌝ }
 {
     let x = axes.x;
@@ -57,7 +54,7 @@ pub fn position(
     tool: u8,
     progress: Progress,
 ) -> Outcome
-    ensures { λ r. ⌜ Carried r (now (list .entry)) (now (list .exit)) (progress .hits) (position (lent (length (now (list .entry)))) frame line axes tool progress) ⌝ }
+    ensures { λ r. ⌜ Carried r frame (lent (now (list .entry))) (lent (now (list .exit))) progress (λ j. position j frame line axes tool) ⌝ }
 {
     let state = progress.state;
     let place = target(frame, state, axes);
@@ -66,36 +63,35 @@ pub fn position(
     hits::punch(list, frame, line, place, ready)
 }
 
-// A position block with G70: a move to the place that it names, whatever the list.
+// A position block with G70: a move to the place that it names, whatever is lent.
 pub fn move_to(frame: Frame, line: u64, axes: Axes, tool: u8, progress: Progress) -> Outcome
-    ensures { λ r. ⌜ ((l : List ℤ) → Carried r l l (progress .hits) (move (lent (length l)) frame line axes tool progress)) ⌝ }
+    ensures { λ r. ⌜ ((l : Lent) → Carried r frame l l progress (λ j. move j frame line axes tool)) ⌝ }
 {
     let state = progress.state;
-    let machine = frame.machine;
     let place = target(frame, state, axes);
-    if !place.is_near() {
-        return Outcome::refused(refusal::TOO_FAR, line, progress);
+    let located = place.located();
+    match located {
+        Located::TooFar => Outcome::refused(refusal::TOO_FAR, line, progress),
+        Located::At(end) => {
+            if !frame.covers(place) {
+                return Outcome::refused(refusal::OUT_OF_RANGE, line, progress);
+            }
+            let chosen = state.choosing(tool);
+            let dropped = chosen.dropping();
+            Outcome::passed(progress.with_state(dropped.moved_to(end)))
+        }
     }
-    if !machine.covers(place) {
-        return Outcome::refused(refusal::OUT_OF_RANGE, line, progress);
-    }
-    let chosen = state.choosing(tool);
-    let dropped = chosen.dropping();
-    let end = place.point();
-    let moved = dropped.moved_to(end);
-    Outcome::passed(progress.with_state(moved))
 }
 
-// G72: the place that it names waits as the origin of the next pattern, whatever the list.
-pub fn set_origin(frame: Frame, line: u64, axes: Axes, progress: Progress) -> Outcome
-    ensures { λ r. ⌜ ((l : List ℤ) → Carried r l l (progress .hits) (setOrigin (lent (length l)) frame line axes progress)) ⌝ }
+// G72: the place that it names waits as the origin of the next pattern, whatever is lent.
+pub fn set_pattern_origin(frame: Frame, line: u64, axes: Axes, progress: Progress) -> Outcome
+    ensures { λ r. ⌜ ((l : Lent) → Carried r frame l l progress (λ j. setPatternOrigin j frame line axes)) ⌝ }
 {
     let state = progress.state;
     let place = target(frame, state, axes);
-    if !place.is_near() {
-        return Outcome::refused(refusal::TOO_FAR, line, progress);
+    let located = place.located();
+    match located {
+        Located::TooFar => Outcome::refused(refusal::TOO_FAR, line, progress),
+        Located::At(origin) => Outcome::passed(progress.with_state(state.waiting_at(origin))),
     }
-    let origin = place.point();
-    let waiting = state.waiting_at(origin);
-    Outcome::passed(progress.with_state(waiting))
 }

@@ -123,7 +123,7 @@ abs-product a b f g = abs-mul a b 2147483648 2147483648 (abs-word a f) (abs-word
 pub wide : (a : ℤ) → SFits w32 a → SFits w64 a
 wide a f = sfits-widen tt f
 
--- also where one is read from the word that holds it,
+-- also what is read from a word of 32,
 pub read-wide : (a : ℤ) → SFits w32 a → SFits w64 (toZ w32 (ofZ w32 a))
 read-wide a f = simp (toZ-ofZ f) (wide a f)
 
@@ -131,7 +131,7 @@ read-wide a f = simp (toZ-ofZ f) (wide a f)
 pub widened : (a : ℤ) → SFits w32 a → toZ w64 (ofZ w64 (toZ w32 (ofZ w32 a))) ≡ a
 widened a f = simp (toZ-ofZ f, toZ-ofZ (wide a f))
 
--- they hold the sums
+-- they hold the sums of two such numbers
 pub sum-fits : (a b : ℤ) → SFits w32 a → SFits w32 b → SFits w64 (a +ℤ b)
 sum-fits a b f g =
     fits-abs w64 (a +ℤ b) 4294967296 (abs-add a b 2147483648 2147483648 (abs-word a f) (abs-word b g)) (lit< tt)

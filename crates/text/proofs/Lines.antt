@@ -31,8 +31,7 @@ module _ (test : ℕ → Bool) where
   until-short [] = omega arith
   until-short (b ∷ bs) = go (test b) refl (until-short bs)
     where
-      go :
-          (p : Bool) → test b ≡ p → countUntil test bs ≤ length bs → countUntil test (b ∷ bs) ≤ suc (length bs)
+      go : (p : Bool) → test b ≡ p → countUntil test bs ≤ length bs → countUntil test (b ∷ bs) ≤ suc (length bs)
       go true e h = rw (until-here b bs e) (omega arith)
       go false e h = rw (until-later b bs e) (omega arith)
 

@@ -15,7 +15,7 @@ use borrow.Author.Tests.{eqb-true, eqb-false, ltb-true, ltb-false, ne-eqb}
 use Rattle.aries.specs.Text.{lineFeed, isCapital, isDigit}
 use Rattle.aries.specs.Test.{pick}
 use Rattle.aries.specs.Words.{Digits, Read, digits, isSign, word, point}
-use Rattle.text.specs.Lines.{lineLength}
+use Rattle.text.specs.Lines.{countUntil, lineLength}
 use Rattle.text.proofs.Lines.{line-ends, line-goes-on, line-short, feed-after}
 use Rattle.words.specs.Gathering.{firstLine}
 use Rattle.words.proofs.Bytes.{byte-inside, capital-inside}
@@ -28,7 +28,7 @@ line-length bs = length-take-le (lineLength bs) bs (line-short bs)
 
 -- its part from a place on is the first line from there
 pub line-drop : (k : ℕ) (bs : List ℕ) → k ≤ lineLength bs → drop k (firstLine bs) ≡ firstLine (drop k bs)
-unfolding lineLength
+unfolding lineLength countUntil
 line-drop zero bs h = refl
 line-drop (suc k) [] h = refl
 line-drop (suc k) (b ∷ bs) h = go (eqb b lineFeed) refl (line-drop k bs)
@@ -36,9 +36,9 @@ line-drop (suc k) (b ∷ bs) h = go (eqb b lineFeed) refl (line-drop k bs)
     go :
         (f : Bool) → eqb b lineFeed ≡ f → (k ≤ lineLength bs → drop k (firstLine bs) ≡ firstLine (drop k bs))
         → drop (suc k) (firstLine (b ∷ bs)) ≡ firstLine (drop k bs)
-    go true e rest = let z : lineLength (b ∷ bs) ≡ 0 = rw (e, lineLength) in absurd (omega arith)
+    go true e rest = let z : lineLength (b ∷ bs) ≡ 0 = rw (e, countUntil) in absurd (omega arith)
     go false e rest =
-        let n : lineLength (b ∷ bs) ≡ suc (lineLength bs) = rw (e, lineLength) in
+        let n : lineLength (b ∷ bs) ≡ suc (lineLength bs) = rw (e, countUntil) in
         rw n (rest (omega arith))
 
 -- it is empty where a line feed stands
@@ -72,7 +72,7 @@ line-byte f bs k e h = inside (ltb k (lineLength bs)) refl
 -- digits end before a line feed
 pub line-digits :
     (n value count : ℕ) (bs : List ℕ) → digits n value count (firstLine bs) ≡ digits n value count bs
-unfolding lineLength digits
+unfolding lineLength countUntil digits
 line-digits zero value count bs = refl
 line-digits (suc n) value count [] = refl
 line-digits (suc n) value count (b ∷ bs) =
@@ -84,13 +84,13 @@ line-digits (suc n) value count (b ∷ bs) =
         ≡ digits n (value * 10 + (b - 48)) (suc count) bs
         → digits (suc n) value count (firstLine (b ∷ bs)) ≡ digits (suc n) value count (b ∷ bs)
     go true d e g rest =
-        let z : lineLength (b ∷ bs) ≡ 0 = rw (e, lineLength) in
+        let z : lineLength (b ∷ bs) ≡ 0 = rw (e, countUntil) in
         rw z (sym (digits-cons-stop (suc n) value count b bs (ap isDigit (eqb-true b lineFeed e))))
     go false true e g rest =
-        let z : lineLength (b ∷ bs) ≡ suc (lineLength bs) = rw (e, lineLength) in
+        let z : lineLength (b ∷ bs) ≡ suc (lineLength bs) = rw (e, countUntil) in
         rw z (digits-cons-more n value count b (firstLine bs) g ∙ rest ∙ sym (digits-cons-more n value count b bs g))
     go false false e g rest =
-        let z : lineLength (b ∷ bs) ≡ suc (lineLength bs) = rw (e, lineLength) in
+        let z : lineLength (b ∷ bs) ≡ suc (lineLength bs) = rw (e, countUntil) in
         rw z
         (digits-cons-stop (suc n) value count b (firstLine bs) g ∙ sym (digits-cons-stop (suc n) value count b bs g))
 

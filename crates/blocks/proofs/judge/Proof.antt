@@ -1,4 +1,4 @@
--- The two tests in their order (`Decode`). The kind's numbers do not go by the tally, nor the G90 or G91 by the letters
+-- The two tests in their order. The kind's numbers do not go by the tally, nor the G90 or G91 by the letters
 -- (`Alone`). Assumes nothing.
 use mathlib.Core.Path.{_≡_, refl, sym, _∙_}
 use mathlib.Core.Bool.{true}
@@ -10,7 +10,6 @@ use Rattle.aries.specs.declared.word.Words.{Words}
 use Rattle.aries.specs.Blocks.{isListed, isRanged, blockOf}
 use Rattle.words.specs.Keeping.{lettersOf, wordsFrom, noTally}
 use Rattle.blocks.proofs.Alone.{same-ranges, same-measure}
-use Rattle.blocks.proofs.Decode.{not-listed, not-ranged, decoded}
 use Rattle.blocks.proofs.judge.Statement.{statement}
 use Rattle.blocks.proofs.judge.Tie as tie
 
@@ -34,32 +33,21 @@ by-ranges c =
     c .is-ranged .ensures ∙ same-ranges (by-letter s) noTally (s .args .tally) (c .before .before .before .kind-of .result)
 
 returns : tie.Need-returns
-returns c line =
+returns c =
     let k = c .before .before .kind-of in
-    not-listed (all-words (c .before .before .before)) line (k .result) (k .ensures)
-    (sym (c .before .is-listed .ensures) ∙ not-true (c .before .is-listed .result) (c .if1 .taken))
+    simp (sym (k .ensures), sym (c .before .is-listed .ensures) ∙ not-true (c .before .is-listed .result) (c .if1 .taken))
 
 returns-2 : tie.Need-returns-2
-returns-2 c line =
+returns-2 c =
     let k = c .before .before .before .before .kind-of in
-    not-ranged (all-words (c .before .before .before .before .before)) line (k .result) (k .ensures) (listed (c .before .before))
-    (sym (by-ranges (c .before)) ∙ not-true (c .before .is-ranged .result) (c .if2 .taken))
+    simp (sym (k .ensures), listed (c .before .before), sym (by-ranges (c .before)) ∙ not-true (c .before .is-ranged .result) (c .if2 .taken))
 
 returns-3 : tie.Need-returns-3
 returns-3 c =
     let s = c .before .before .before .before .before .before in
     let k = c .before .before .before .before .before .kind-of in
-    let m = c .measure-of in
-    let ranged : isRanged (all-words s) (k .result) ≡ true =
-    sym (by-ranges (c .before .before)) ∙ not-false (c .before .before .is-ranged .result) (c .before .if2 .left) in
-    record {
-      decoded = λ line.
-          decoded (all-words s) line (k .result) (k .ensures) (listed (c .before .before .before)) ranged (m .result)
-          (blockOf (all-words s) (k .result))
-          (m .ensures ∙ same-measure (by-letter s) (s .args .tally))
-          refl;
-      ranged = ranged;
-    }
+    let ranged = sym (by-ranges (c .before .before)) ∙ not-false (c .before .before .is-ranged .result) (c .before .if2 .left) in
+    simp (sym (k .ensures), listed (c .before .before .before), ranged, c .measure-of .ensures ∙ same-measure (by-letter s) (s .args .tally))
 
 pub judge-spec : {M : Type 1} → statement M
 judge-spec =

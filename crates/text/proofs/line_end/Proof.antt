@@ -16,16 +16,20 @@ abbrev μ-loop : tie.MeasureT-loop
 
 returns : tie.Need-returns Inv-loop μ-loop
 returns c =
-    let p = c .before .before .before in
-    omega (arith, line-ends (p .before .args .text .now) (p .loop .i) (c .before .before .loop-test .taken) (c .if1 .taken))
+    let here = c .before .before .before in
+    let t = here .before .args .text .now in
+    omega (arith, line-ends t (here .loop .i) (c .before .before .loop-test .taken) (c .if1 .taken))
 
 loop-again : tie.Need-loop-again Inv-loop μ-loop
 loop-again c =
-    let p = c .before .before .before in
-    omega (arith, line-goes-on (p .before .args .text .now) (p .loop .i) (c .before .before .loop-test .taken) (c .if1 .left))
+    let here = c .before .before .before in
+    let t = here .before .args .text .now in
+    omega (arith, line-goes-on t (here .loop .i) (c .before .before .loop-test .taken) (c .if1 .left))
 
 returns-2 : tie.Need-returns-2 Inv-loop μ-loop
-returns-2 c = omega (arith, line-past (c .before .before .args .text .now) (c .before .loop .i) (c .loop-test .left))
+returns-2 c =
+    let t = c .before .before .args .text .now in
+    omega (arith, line-past t (c .before .loop .i) (c .loop-test .left))
 
 pub line-end-spec : {M : Type 1} → statement M
 line-end-spec =

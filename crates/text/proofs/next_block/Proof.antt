@@ -17,16 +17,20 @@ abbrev μ-loop : tie.MeasureT-loop
 
 returns : tie.Need-returns Inv-loop μ-loop
 returns c =
-    let p = c .before .before .before in
-    omega (arith, blanks-end (p .before .before .before .args .text .now) (p .loop .i) (c .before .before .loop-test .taken) (c .if1 .taken))
+    let here = c .before .before .before in
+    let t = here .before .before .before .args .text .now in
+    omega (arith, blanks-end t (here .loop .i) (c .before .before .loop-test .taken) (c .if1 .taken))
 
 loop-again : tie.Need-loop-again Inv-loop μ-loop
 loop-again c =
-    let p = c .before .before .before in
-    omega (arith, blanks-go-on (p .before .before .before .args .text .now) (p .loop .i) (c .before .before .loop-test .taken) (c .if1 .left))
+    let here = c .before .before .before in
+    let t = here .before .before .before .args .text .now in
+    omega (arith, blanks-go-on t (here .loop .i) (c .before .before .loop-test .taken) (c .if1 .left))
 
 returns-2 : tie.Need-returns-2 Inv-loop μ-loop
-returns-2 c = omega (arith, blanks-past (c .before .before .before .before .args .text .now) (c .before .loop .i) (c .loop-test .left))
+returns-2 c =
+    let t = c .before .before .before .before .args .text .now in
+    omega (arith, blanks-past t (c .before .loop .i) (c .loop-test .left))
 
 pub next-block-spec : {M : Type 1} → statement M
 next-block-spec =

@@ -1,9 +1,13 @@
--- The hit's number tells which way it went, and the laws of it what that comes to. Assumes nothing.
-use mathlib.Core.Path.{_≡_}
+-- What is judged of the hit tells which way it went, and the laws of it what that comes to. Assumes nothing.
+use mathlib.Core.Path.{_≡_, sym, ap, _∙_}
+use Prim.Native.Nat.{_<_}
 use native.Mathlib.Omega.{arith}
-use borrow.Author.Needs.{needs}
+use Rattle.aries.specs.declared.point.Point.{Point}
 use Rattle.aries.specs.Places.{pointOf}
-use Rattle.press.proofs.Punch.{hit-near, hit-fits, hit-made, hit-refused}
+use Rattle.press.specs.declared.hits.Judged.the-variants.{Made, Refused}
+use Rattle.press.specs.Hits.{judgedHit}
+use Rattle.press.proofs.Punch.{hit-fits, punch-made, punch-refused}
+use borrow.Author.Needs.{needs}
 use Rattle.press.proofs.hits.punch.Statement.{statement}
 use Rattle.press.proofs.hits.punch.Tie as tie
 
@@ -11,69 +15,76 @@ use Rattle.press.proofs.hits.punch.Tie as tie
 abbrev entry : tie.After-hit → tie.Start
 entry c = c .before .before .before
 
--- no refusal
-is-made : (c : tie.Else1) → c .before .before .hit .result ≡ 0
-is-made c = omega arith
+abbrev point : tie.After-hit → Point
+point c = pointOf (entry c .args .place)
+
+-- the places of the job are of 64 bits
+places-fit : (c : tie.Start) → c .args .frame .job .places < 18446744073709551616
+places-fit c = omega arith
+
+-- a hit that is made
+is-made : (c : tie.After-judged2) → Made (c .judged2 .given .0 .0) ≡ judgedHit (entry (c .before .before .before) .args .frame) (point (c .before .before .before)) (entry (c .before .before .before) .args .progress .state .tool) (entry (c .before .before .before) .args .progress .hits)
+is-made c = sym (c .judged2 .given .1) ∙ c .before .before .before .hit .ensures .0
 
 hit-requires : tie.Need-hit-requires
 hit-requires c κs = search needs
 
+enum-known-judged : tie.Need-enum-known-judged
+enum-known-judged c = search needs
+
 refused-requires : tie.Need-refused-requires
 refused-requires c κs = search needs
 
-same-length : tie.Need-same-length
-same-length c = search needs
-
-returns : tie.Need-returns
-returns c =
-    let h = c .before .before .before in
-    let a = entry h .args in
-    rw (c .refused .ensures)
-    (hit-refused (a .frame) (a .line) (pointOf (a .place)) (a .progress) (a .list .now) (h .hit .result) (h .hit .ensures .0)
-    (a .progress) (h .hit .last .0) (c .before .if1 .taken))
-
-point-requires : tie.Need-point-requires
-point-requires c κs =
-    let h = c .before .before in
-    let a = entry h .args in
-    hit-near (a .frame) (a .line) (pointOf (a .place)) (a .progress) (a .list .now) (h .hit .result) (h .hit .ensures .0) (is-made c)
+enum-known-judged-2 : tie.Need-enum-known-judged-2
+enum-known-judged-2 c = search needs
 
 moved-to-requires : tie.Need-moved-to-requires
 moved-to-requires c κs = search needs
 
 add-t15 : tie.Need-add-t15
 add-t15 c =
-    let e = c .before .before in
-    let h = e .before .before in
-    let a = entry h .args in
-    omega (arith, hit-fits (a .frame) (a .line) (pointOf (a .place)) (a .progress) (a .list .now) (h .hit .result) (h .hit .ensures .0) (is-made e))
+    let j = c .before .before in
+    let a = entry (j .before .before .before) .args in
+    omega (arith, places-fit (entry (j .before .before .before)), hit-fits (a .frame) (pointOf (a .place)) (a .progress .state .tool) (a .progress .hits) (j .judged2 .given .0 .0) (is-made j))
 
 passed-requires : tie.Need-passed-requires
 passed-requires c κs = search needs
+
+same-length : tie.Need-same-length
+same-length c = search needs
+
+returns : tie.Need-returns
+returns c =
+    let j = c .before .before in
+    let h = j .before .before .before in
+    let a = entry h .args in
+    rw (c .refused .ensures)
+    (punch-refused (a .frame) (a .line) (point h) (a .progress) (j .judged .given .0 .0) (sym (j .judged .given .1) ∙ h .hit .ensures .0))
 
 same-length-2 : tie.Need-same-length-2
 same-length-2 c = search needs
 
 returns-2 : tie.Need-returns-2
 returns-2 c =
-    let e = c .before .before .before in
-    let h = e .before .before in
+    let j = c .before .before .before in
+    let h = j .before .before .before in
     let a = entry h .args in
-    rw (c .passed .ensures, c .before .moved-to .ensures, c .before .before .point .ensures)
-    (hit-made (a .frame) (a .line) (pointOf (a .place)) (a .progress) (a .list .now) (h .hit .result) (h .hit .ensures .0)
-    (h .hit .last .0) (is-made e) (h .hit .ensures .1))
+    rw (c .passed .ensures, c .before .moved-to .ensures)
+    (punch-made (a .frame) (a .line) (point h) (a .progress) (j .judged2 .given .0 .0) (is-made j)
+    (rw (j .judged2 .given .1) at (h .hit .ensures .1)))
 
 pub punch-spec : {M : Type 1} → statement M
 punch-spec =
     tie.close
     (tie.spec
     hit-requires
+    enum-known-judged
     refused-requires
-    same-length
-    returns
-    point-requires
+    enum-known-judged-2
     moved-to-requires
     add-t15
     passed-requires
+    same-length
+    returns
     same-length-2
     returns-2)

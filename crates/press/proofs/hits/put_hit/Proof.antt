@@ -1,10 +1,12 @@
 -- Four stores, each of a number that is read back from the word that held it. Assumes nothing.
 use mathlib.Core.Path.{_≡_}
+use Prim.Native.Nat.{_/_}
 use native.Mathlib.Omega.{arith}
-use lib.ListN.{length-set}
-use borrow.Author.Needs.{needs}
+use lib.ListN.{length, length-set}
 use mir.Syntax.{w32}
 use mir.Val.{toZ, ofZ}
+use borrow.Author.Tests.{lt-ltb, le-ltb}
+use borrow.Author.Needs.{needs}
 use Rattle.press.proofs.hits.put_hit.Statement.{statement}
 use Rattle.press.proofs.hits.put_hit.Tie as tie
 
@@ -42,7 +44,8 @@ mul-y : tie.Need-mul-y
 mul-y c = search needs
 
 slice-set-from-y : tie.Need-slice-set-from-y
-slice-set-from-y c = simp length-set (omega arith)
+slice-set-from-y c =
+    simp length-set (omega arith)
 
 add-number : tie.Need-add-number
 add-number c = search needs
@@ -51,7 +54,8 @@ mul-number : tie.Need-mul-number
 mul-number c = search needs
 
 slice-set-from-number : tie.Need-slice-set-from-number
-slice-set-from-number c = simp length-set (omega arith)
+slice-set-from-number c =
+    simp length-set (omega arith)
 
 add-mode : tie.Need-add-mode
 add-mode c = search needs
@@ -60,16 +64,24 @@ mul-mode : tie.Need-mul-mode
 mul-mode c = search needs
 
 slice-set-from-mode : tie.Need-slice-set-from-mode
-slice-set-from-mode c = simp length-set (omega arith)
+slice-set-from-mode c =
+    simp length-set (omega arith)
 
 same-length : tie.Need-same-length
 same-length c = search needs
 
 returns : tie.Need-returns
 returns c =
-    let a = c .before .before .before .before in
-    simp (x-back a, y-back a, tool-back (c .before), mode-back c)
-    (simp (c .before .tool-number .ensures, c .mode-number .ensures))
+    let m = c .before in
+    let a = m .before .before .before .before in
+    simp (lt-ltb (a .args .k) (length (a .args .list .now) / 4) (c .if1 .taken))
+    (simp (x-back a, y-back a, tool-back (m .before), mode-back m)
+    (simp (m .before .tool-number .ensures, m .mode-number .ensures)))
+
+returns-2 : tie.Need-returns-2
+returns-2 c =
+    let a = c .before .before .before .before .before in
+    simp (le-ltb (a .args .k) (length (a .args .list .now) / 4) (c .if1 .left))
 
 pub put-hit-spec : {M : Type 1} → statement M
 put-hit-spec =
@@ -90,4 +102,5 @@ put-hit-spec =
     mul-mode
     slice-set-from-mode
     same-length
-    returns)
+    returns
+    returns-2)

@@ -1,12 +1,12 @@
 -- A punch at the target, with the progress that the definition gives it. Assumes nothing.
-use mathlib.Core.Path.{_≡_, ap, _∙_}
-use lib.ListN.{length}
+use mathlib.Core.Path.{_≡_, refl, ap, _∙_}
+use Prim.Native.Nat.{ℕ}
 use borrow.Author.Needs.{needs}
+use Rattle.aries.specs.declared.block.Axes.{Axes}
+use Rattle.aries.specs.declared.state.Frame.{Frame}
 use Rattle.aries.specs.declared.state.Progress.{Progress}
-use Rattle.aries.specs.Judging.{lent}
-use Rattle.aries.specs.Moves.{choosing, dropping, withState}
-use Rattle.aries.proofs.Runs.{ran-as}
-use Rattle.press.proofs.Position.{position-punches}
+use Rattle.aries.specs.Judging.{Judging, limits}
+use Rattle.aries.specs.Moves.{choosing, dropping, withState, target, punch, position}
 use Rattle.press.proofs.moves.position.Statement.{statement}
 use Rattle.press.proofs.moves.position.Tie as tie
 
@@ -41,13 +41,17 @@ punch-requires c κs = search needs
 same-length : tie.Need-same-length
 same-length c = search needs
 
+-- a position block is a punch, with this progress
+punches : (j : Judging) (f : Frame) (line : ℕ) (a : Axes) (t : ℕ) (g : Progress)
+    → position j f line a t g ≡ punch j f line (target f (g .state) a) (withState g (dropping (choosing (g .state) t)))
+unfolding position
+punches j f line a t g = refl
+
 returns : tie.Need-returns
 returns c =
     let d = c .before .before .before in
-    let a = before-punch d in
-    let r = c .before .punch .result in
-    ran-as (λ (g : Progress). g .hits) (r .status) (r .progress) (a .args .list .now) _ (a .args .progress .hits)
-    (position-punches (lent (length (a .args .list .now))) (a .args .frame) (a .args .line) (a .args .axes) (a .args .tool) (a .args .progress))
+    let a = before-punch d .args in
+    rw (punches (limits (a .frame .job)) (a .frame) (a .line) (a .axes) (a .tool) (a .progress))
     (rw (d .before .before .before .target .ensures, ready-is d) at (c .before .punch .ensures))
 
 pub position-spec : {M : Type 1} → statement M

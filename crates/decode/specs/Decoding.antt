@@ -1,0 +1,17 @@
+-- What decoding answers of the line at a place of a text.
+use mathlib.Core.List.{List}
+use Prim.Native.Nat.{ℕ}
+use Rattle.aries.specs.declared.block.Decoded.{Decoded}
+use Rattle.aries.specs.declared.block.Decoded.the-variants as Decoded
+use Rattle.aries.specs.declared.block.Instruction.{Instruction}
+use Rattle.aries.specs.Outcome.{Checked, passes, fails}
+use Rattle.aries.specs.Blocks.{decode}
+use Rattle.text.specs.Lines.{lineAt, lineEnd}
+
+-- an instruction with the place where its line ends, or a refusal's number
+abbrev pub decodedOf : ℕ → Checked Instruction → Decoded
+decodedOf end (passes i) = Decoded.Instruction i end
+decodedOf end (fails number) = Decoded.Refused number
+
+abbrev pub decodedAt : List ℕ → ℕ → Decoded
+decodedAt t at = decodedOf (lineEnd t at) (decode (lineAt t at))
