@@ -70,8 +70,7 @@ block-of-requires c κs =
     let judge = known .before .before in
     let e = judge .before .before .before in
     let r = read e in
-    let g = known .judged .given in
-    (
+    let g = known .judged .given in (
       line-clean (line r) (forms r) (numbers r) (tally r) (formed e),
       line-ranged (line r) (forms r) (numbers r) (tally r) (formed e) (g .0 .0) (g .0 .1 .0) (sym (judge .judge .ensures) ∙ g .1),
     )
