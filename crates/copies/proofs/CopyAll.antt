@@ -76,7 +76,7 @@ module _ (job : Job) (f : Frame) (line : ℕ) (found : State) (place : ℕ → P
   blanks-near zero m last g e all =
       let z : m ≡ last = omega arith in
       blanks-step 0 m g (all m (omega arith)) ∙ ap (λ (k : ℕ). still (withState g (copyStart found (place k)))) z
-  blanks-near (suc n) m last g e all = 
+  blanks-near (suc n) m last g e all =
       blanks-step (suc n) m g (all m (omega arith)) ∙ blanks-near n (suc m) last (withState g (copyStart found (place m))) (omega arith) all
 
   -- one is too far

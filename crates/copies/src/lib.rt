@@ -17,13 +17,12 @@ use aries::state::Status;
 use bodies::Opening;
 use lanes::Cursor;
 ghost use mathlib.Core.Path.{_≡_};
-ghost use Prim.Native.Nat.{_+_, _≤_, _<_};
-ghost use lib.ListN.{length};
 ghost use Rattle.aries.specs.Layouts.{copyStart, partOf, copy, copyPart};
 ghost use Rattle.aries.specs.Macros.{bodiesOf};
 ghost use Rattle.aries.specs.Places.{pointOf};
 ghost use Rattle.aries.specs.Runs.{Lent, lent, Carried};
 ghost use Rattle.aries.specs.Setup.{ordinaryFrame};
+ghost use Rattle.stretches.specs.Stretches.{LinesFit};
 ghost use Rattle.copies.specs.Copying.{openedPart, blankPart, bodyOf, allCopies};
 
 // The state that a copy begins with: the one found, at the copy's own place, and no pattern origin waits.
@@ -64,7 +63,7 @@ fn copy_at(
     place: Place,
     progress: Progress,
 ) -> Outcome
-    requires { ⌜ opening .line + length (now body) < 18446744073709551616 ⌝ }
+    requires { ⌜ LinesFit (opening .line) (opening .at) (now body) ⌝ }
     ensures { λ r. ⌜ Carried r frame (lent (now (list .entry))) (lent (now (list .exit))) progress (λ j. copy j (openedPart j (bodiesOf (now (text .entry)) macros) opening (now (body .entry))) frame line found (pointOf place)) ⌝ }
 {
     let located = place.located();
@@ -98,7 +97,7 @@ fn copy_body(
     copies: Copies,
     progress: Progress,
 ) -> Outcome
-    requires { ⌜ opening .line + length (now body) < 18446744073709551616 ⌝ }
+    requires { ⌜ LinesFit (opening .line) (opening .at) (now body) ⌝ }
     ensures { λ r. ⌜ Carried r frame (lent (now (list .entry))) (lent (now (list .exit))) progress (λ j. allCopies j (openedPart j (bodiesOf (now (text .entry)) macros) opening (now (body .entry))) frame line layout copies) ⌝ }
 {
     let origin = frame.origin;
@@ -146,7 +145,6 @@ fn copy_over(
     copies: Copies,
     progress: Progress,
 ) -> Outcome
-    requires { ⌜ length (now body) ≤ 65535 ⌝ }
     ensures { λ r. ⌜ Carried r frame (lent (now (list .entry))) (lent (now (list .exit))) progress (λ j. allCopies j (partOf j (bodiesOf (now (text .entry)) macros) (bodyOf first (now (body .entry)))) frame line layout copies) ⌝ }
 {
     let opening = bodies::first_block(body, first);
@@ -188,13 +186,13 @@ pub fn copy_part(
     let Sheet::LaidOut(layout) = sheet else {
         return Outcome::refused(refusal::NO_LAYOUT, line, progress);
     };
-    let end = if text.len() < end { text.len() } else { end };
-    let start = if end < start { end } else { start };
+    let to = bodies::clip(end, text.len());
+    let from = bodies::clip(start, to);
     let frame = setup.frame();
     copy_over(
         list,
         text,
-        &text[start..end],
+        &text[from..to],
         first,
         macros,
         frame,
