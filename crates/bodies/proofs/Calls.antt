@@ -1,26 +1,100 @@
--- Laws of lines that come to a call.
-use mathlib.Core.Path.{_≡_, refl, sym, _∙_}
-use mathlib.Core.List.{List}
-use Prim.Native.Nat.{ℕ, _-_}
-use lib.ListN.{drop, take}
-use Rattle.aries.specs.declared.block.Measure.{Measure}
+-- Laws of calls: what is found of a macro, the body that is cut out of the text, and what the call comes to.
+use mathlib.Core.Path.{_≡_, refl, sym, ap, _∙_}
+use mathlib.Core.Bool.{Bool, true, false}
+use mathlib.Core.List.{List, []}
+use mathlib.Core.Option.{Option, none, some}
+use Prim.Native.Nat.{ℕ, zero, suc, _+_, _-_, _<_, _≤_}
+use native.Mathlib.Omega.{arith}
+use borrow.Author.Tests.{ltb-true, ltb-false}
+use lib.Dec.{ltb}
+use lib.ListN.{length, take, drop, length-drop}
+use lib.Seq.{take-all}
 use Rattle.aries.specs.declared.macros.Macros.{Macros}
+use Rattle.aries.specs.declared.macros.Found.{Found}
+use Rattle.aries.specs.declared.macros.Found.the-variants as Found
 use Rattle.aries.specs.declared.state.Frame.{Frame}
 use Rattle.aries.specs.declared.state.Progress.{Progress}
+use Rattle.aries.specs.Outcome.{refused}
+use Rattle.aries.specs.Judging.{Judging}
+use Rattle.aries.specs.Test.{pick}
 use Rattle.aries.specs.Text.{lines}
-use Rattle.aries.specs.Judging.{lent}
-use Rattle.aries.specs.Macros.{begun, call, runBlock, runLines}
-use Rattle.bodies.specs.declared.Next.the-variants.{Call}
+use Rattle.aries.specs.Macros.{Body, part, Bodies, bodyAt, bodiesOf, foundIn, Calls, runLines, call, runBody}
 use Rattle.bodies.specs.declared.Opening.{Opening}
 use Rattle.bodies.specs.Opening.{Opens}
-use Rattle.bodies.specs.Calls.{LineComes}
-use Rattle.bodies.proofs.Running.{body-opened}
+use Rattle.bodies.proofs.Lines.{lines-skip}
 
--- such a line is the body that it calls, from its first block on
-pub line-opened :
-    (numbers : ℕ) (text : List ℕ) (m : Macros) (f : Frame) (depth line : ℕ) (bytes : List ℕ) (g : Progress) (start end first : ℕ) (measure : Measure) (r : Opening)
-    → LineComes depth m bytes line (g .blocks) (Call start end first measure) → Opens (take (end - start) (drop start text)) first r
-    → runBlock (lent numbers) (call (lent numbers) text m f depth) f line bytes g
-    ≡ runLines (lent numbers) (call (lent numbers) text m f (depth - 1)) f (r .line) (lines (drop (r .at) (take (end - start) (drop start text)))) (begun g measure)
-line-opened numbers text m f depth line bytes g start end first measure r h o =
-    h .1 .1 numbers text f g refl ∙ sym (body-opened (lent numbers) text m (depth - 1) f (take (end - start) (drop start text)) first r (begun g measure) o)
+-- ---- What is stored
+
+module _ (text : List ℕ) (m : Macros) (n : ℕ) where
+  pub body-missing : foundIn m n ≡ Found.Nothing → bodiesOf text m n ≡ none
+  unfolding bodiesOf
+  body-missing e = ap (bodyAt text) e
+
+  pub body-found : (start end line : ℕ) → foundIn m n ≡ Found.Body start end line → bodiesOf text m n ≡ some (record { line = line; bytes = part text start end })
+  unfolding bodiesOf
+  body-found start end line e = ap (bodyAt text) e
+
+-- ---- The part of a text from one place to another
+
+-- its ends, clipped to the text
+abbrev pub clipped : ℕ → ℕ → ℕ
+clipped place limit = pick (ltb limit place) limit place
+
+pub clipped-within : (place limit : ℕ) → (clipped place limit ≤ limit) × (clipped place limit ≤ place)
+clipped-within place limit = go (ltb limit place) refl
+  where
+    go : (b : Bool) → ltb limit place ≡ b → (pick b limit place ≤ limit) × (pick b limit place ≤ place)
+    go true e = (omega arith, omega (arith, ltb-true limit place e))
+    go false e = (omega (arith, ltb-false limit place e), omega arith)
+
+module _ (t : List ℕ) (start end : ℕ) where
+  -- the end past the text
+  clipped-end : take (clipped end (length t) - start) (drop start t) ≡ take (end - start) (drop start t)
+  clipped-end = go (ltb (length t) end) refl
+    where
+      go : (b : Bool) → ltb (length t) end ≡ b → take (pick b (length t) end - start) (drop start t) ≡ take (end - start) (drop start t)
+      go false e = refl
+      go true e =
+          let i = ltb-true (length t) end e in
+          take-all (length t - start) (drop start t) (omega (arith, length-drop start t)) ∙ sym (take-all (end - start) (drop start t) (omega (arith, length-drop start t)))
+
+  -- the start past the end
+  pub part-clipped : take (clipped end (length t) - clipped start (clipped end (length t))) (drop (clipped start (clipped end (length t))) t) ≡ part t start end
+  unfolding part
+  part-clipped = go (ltb (clipped end (length t)) start) refl
+    where
+      go :
+          (b : Bool) → ltb (clipped end (length t)) start ≡ b
+          → take (clipped end (length t) - pick b (clipped end (length t)) start) (drop (pick b (clipped end (length t)) start) t) ≡ take (end - start) (drop start t)
+      go false e = clipped-end
+      go true e =
+          let i = ltb-true (clipped end (length t)) start e in
+          let z : clipped end (length t) - clipped end (length t) ≡ 0 = omega arith in
+          let w : clipped end (length t) - start ≡ 0 = omega (arith, i) in
+          rw z (sym (sym clipped-end ∙ ap (λ (n : ℕ). take n (drop start t)) w))
+
+-- ---- Calls
+
+module _ (j : Judging) (bodies : Bodies) (f : Frame) (n line : ℕ) (g : Progress) where
+  pub call-missing : (d : ℕ) → bodies n ≡ none → call j bodies d f n line g ≡ refused 10 line
+  unfolding call
+  call-missing zero e = simp e
+  call-missing (suc d) e = simp e
+
+  pub call-deep : (d : ℕ) (b : Body) → bodies n ≡ some b → d ≡ 0 → call j bodies d f n line g ≡ refused 11 line
+  unfolding call
+  call-deep d b e z = simp (z, e)
+
+  pub call-body : (d : ℕ) (b : Body) → bodies n ≡ some b → 0 < d → call j bodies d f n line g ≡ runBody j bodies (d - 1) f b g
+  unfolding call runBody
+  call-body zero b e h = absurd (omega arith)
+  call-body (suc d) b e h = let k : suc d - 1 ≡ d = omega arith in rw k (simp e)
+
+-- from its first block on
+pub body-opened :
+    (j : Judging) (c : Calls) (f : Frame) (t : List ℕ) (first : ℕ) (o : Opening) (g : Progress) → Opens t first o
+    → runLines j c f (o .line) (lines (drop (o .at) t)) g ≡ runLines j c f first (lines t) g
+body-opened j c f t first o g e =
+    ap (λ (k : ℕ). runLines j c f k (lines (drop (o .at) t)) g) (e .counted)
+    ∙ ap (λ (k : ℕ). runLines j c f (first + k) (lines (drop k t)) g) (e .past)
+    ∙ sym (lines-skip j c f t first g)

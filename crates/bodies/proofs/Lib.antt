@@ -1,6 +1,2 @@
+pub mod Lines
 pub mod Calls
-pub mod OutsideBlocks
-pub mod Stretches
-pub mod Running
-pub mod Tags
-pub mod TextRuns

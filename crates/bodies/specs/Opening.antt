@@ -2,13 +2,10 @@
 use mathlib.Core.Path.{_≡_}
 use mathlib.Core.List.{List}
 use Prim.Native.Nat.{ℕ, _+_}
-use lib.ListN.{drop}
 use Rattle.text.specs.Lines.{blanks}
 use Rattle.bodies.specs.declared.Opening.{Opening}
-use Rattle.bodies.specs.Stretches.{AtBlock}
 
 -- past the empty lines at its front, which count as lines
 pub record Opens (body : List ℕ) (first : ℕ) (r : Opening) : Type 0 where
-  pub past : r .at ≡ 0 + blanks (drop 0 body)
+  pub past : r .at ≡ blanks body
   pub counted : r .line ≡ first + r .at
-  pub ready : AtBlock body (r .at) (r .line)

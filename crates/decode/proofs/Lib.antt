@@ -1,2 +1,3 @@
 pub mod CleanWords
 pub mod Judging
+pub mod Decoding

@@ -1,7 +1,7 @@
--- The empty lines at the front are passed over.
-use mathlib.Core.Path.{refl}
-use Rattle.text.proofs.Lines.{next-stop}
+-- The next block from the front on. A slice is not so long that the numbers of its lines would not fit.
+use native.Mathlib.Omega.{arith}
 use borrow.Author.Needs.{needs}
+use Rattle.text.proofs.Lines.{blanks-short}
 use Rattle.bodies.proofs.first_block.Statement.{statement}
 use Rattle.bodies.proofs.first_block.Tie as tie
 
@@ -9,13 +9,10 @@ next-block-requires : tie.Need-next-block-requires
 next-block-requires c κs = search needs
 
 add-t6 : tie.Need-add-t6
-add-t6 c = search needs
+add-t6 c = omega (arith, c .next-block .ensures, blanks-short (c .before .before .args .body .now), c .before .before .good)
 
 returns : tie.Need-returns
-returns c =
-    let a = c .before .before .args in
-    let n = c .next-block in
-    record { past = n .ensures .0; counted = refl; ready = record { inside = n .ensures .1; numbered = search needs; block = next-stop (a .body .now) 0 (n .result) (n .ensures .0) } }
+returns c = search needs
 
 pub first-block-spec : {M : Type 1} → statement M
 first-block-spec = tie.close (tie.spec next-block-requires add-t6 returns)

@@ -1,0 +1,139 @@
+-- The lines of a body, stretch by stretch: what direct blocks one after another make, and then what follows the block that
+-- they end at.
+use mathlib.Core.Path.{_≡_, refl, sym, ap, ap₂, _∙_, fun-ext}
+use mathlib.Core.Bool.{Bool, true, false}
+use mathlib.Core.List.{List, [], _∷_, _++_, append-assoc}
+use Prim.Native.Nat.{ℕ, zero, suc, _+_, _<_, _≤_}
+use native.Mathlib.Omega.{arith}
+use borrow.Author.Tests.{ltb-true, ltb-false}
+use lib.Dec.{ltb}
+use lib.ListN.{length, getD, drop, take, replicate, length-drop}
+use lib.Seq.{length-take-le, drop-drop, getD-drop}
+use Rattle.aries.specs.declared.block.Block.{Block}
+use Rattle.aries.specs.declared.block.Block.the-variants as Block
+use Rattle.aries.specs.declared.job.Job.{Job}
+use Rattle.aries.specs.declared.state.Frame.{Frame}
+use Rattle.aries.specs.declared.state.Status.{Status}
+use Rattle.aries.specs.declared.state.Status.the-variants.{Passed, Refused}
+use Rattle.aries.specs.declared.state.Progress.{Progress}
+use Rattle.aries.specs.Outcome.{Out, done, refused, _>>=_}
+use Rattle.aries.specs.Hits.{Hit, Made, still, adding, andThen}
+use Rattle.aries.specs.Judging.{Judging}
+use Rattle.aries.specs.Macros.{Calls, carryDirect, carry, Begun, begin, runBlock, runLine, runLines}
+use Rattle.aries.specs.Runs.{Lent, Ran}
+use Rattle.aries.specs.Text.{lines, lineFeed}
+use Rattle.aries.proofs.Runs.{still-then}
+use Rattle.text.specs.Lines.{lineLength, blanks}
+use Rattle.text.proofs.Lines.{line-ends, feed-after, lines-at, lines-past, lines-blanks}
+use Rattle.stretches.specs.declared.Stop.{Stop}
+use Rattle.stretches.specs.declared.Stop.the-variants as Stop
+use Rattle.stretches.specs.Stretches.{Stretched, stepOf, blockStep, begunStep, lineStep, onward, stretch}
+use Rattle.stretches.proofs.Stops.{first-line}
+
+-- hits, and then one thing after the other
+adding-then : (hs : List Hit) (x : Out (Made Progress)) (k : Progress → Out (Made Progress)) → adding hs (andThen x k) ≡ andThen (adding hs x) k
+adding-then hs (refused number line) k = refl
+adding-then hs (done m) k = go (k (m .after))
+  where
+    go : (y : Out (Made Progress)) → adding hs (adding (m .hits) y) ≡ adding (hs ++ m .hits) y
+    go (refused number line) = refl
+    go (done n) = ap (λ (l : List Hit). done (record { hits = l; after = n .after })) (sym (append-assoc hs (m .hits) (n .hits)))
+
+module _ (j : Judging) (c : Calls) (f : Frame) where
+  -- ---- From line to line
+
+  -- blank lines count, and do nothing
+  blank-lines : (n line : ℕ) (ls : List (List ℕ)) (g : Progress) → runLines j c f line (replicate n [] ++ ls) g ≡ runLines j c f (line + n) ls g
+  unfolding runLines
+  blank-lines zero line ls g = let e : line ≡ line + 0 = omega arith in ap (λ (k : ℕ). runLines j c f k ls g) e
+  blank-lines (suc n) line ls g =
+      let e : suc line + n ≡ line + suc n = omega arith in
+      still-then g (runLines j c f (suc line) (replicate n [] ++ ls))
+      ∙ blank-lines n (suc line) ls g
+      ∙ ap (λ (k : ℕ). runLines j c f k ls g) e
+
+  -- past the empty lines at the front of a body
+  pub lines-skip : (t : List ℕ) (line : ℕ) (g : Progress) → runLines j c f line (lines t) g ≡ runLines j c f (line + blanks t) (lines (drop (blanks t) t)) g
+  lines-skip t line g = ap (λ (ls : List (List ℕ)). runLines j c f line ls g) (lines-blanks t) ∙ blank-lines (blanks t) line (lines (drop (blanks t) t)) g
+
+  -- the end of a line is a place between lines: what is left of the line there is blank
+  past-line :
+      (t : List ℕ) (end line : ℕ) (g : Progress) → (end < length t → getD t end 0 ≡ lineFeed)
+      → runLines j c f (suc line) (lines (drop (end + 1) t)) g ≡ runLines j c f line (lines (drop end t)) g
+  unfolding runLines
+  past-line t end line g feed = go (ltb end (length t)) refl
+    where
+      go : (b : Bool) → ltb end (length t) ≡ b → runLines j c f (suc line) (lines (drop (end + 1) t)) g ≡ runLines j c f line (lines (drop end t)) g
+      go true e =
+          let i : end < length t = ltb-true end (length t) e in
+          let z : lineLength (drop end t) ≡ 0 = line-ends t end i (feed i) in
+          let a : end + 0 + 1 ≡ end + 1 = omega arith in
+          sym
+          (ap (λ (ls : List (List ℕ)). runLines j c f line ls g) (lines-at t end i)
+          ∙ rw z (rw a (still-then g (runLines j c f (suc line) (lines (drop (end + 1) t))))))
+      go false e =
+          let i : length t ≤ end = ltb-false end (length t) e in
+          rw (lines-past t (end + 1) (omega arith), lines-past t end i) refl
+
+  -- ---- Stretch by stretch
+
+  -- what follows a stretch in a body, from the end of the line of the block that it ended at
+  abbrev pub following : List ℕ → Stop → Progress → Out (Made Progress)
+  following t Stop.End g = still g
+  following t (Stop.Call n end line) g = andThen (c f n line g) (runLines j c f line (lines (drop end t)))
+  following t (Stop.Outside o end line) g = refused 7 line
+
+  module _ (t : List ℕ) where
+    abbrev all : Stretched → Out (Made Progress)
+    all s = andThen (s .made) (following t (s .stop))
+
+    -- a line, and what follows it
+    line-all :
+        (at line : ℕ) (l : List ℕ) (g : Progress) (rest : Progress → Out (Made Progress)) (later : Progress → Stretched)
+        → (at + length l < length t → getD t (at + length l) 0 ≡ lineFeed)
+        → ((g : Progress) → rest g ≡ all (later g)) → ((g : Progress) → rest g ≡ runLines j c f line (lines (drop (at + length l) t)) g)
+        → andThen (runLine j c f line l g) rest ≡ all (onward (lineStep j f (at + length l) line l g) later)
+    unfolding runBlock carry
+    line-all at line [] g rest later feed same past = ap (adding []) (same g) ∙ adding-then [] (later g .made) (following t (later g .stop))
+    line-all at line (b ∷ bs) g rest later feed same past = begins (begin j line (b ∷ bs) g)
+      where
+        carried : (out : Out (Made Progress)) → andThen out rest ≡ all (onward (stepOf out) later)
+        carried (done m) = ap (adding (m .hits)) (same (m .after)) ∙ adding-then (m .hits) (later (m .after) .made) (following t (later (m .after) .stop))
+        carried (refused number place) = refl
+
+        blocks : (d : Block) (g : Progress) → andThen (carry j c f line d g) rest ≡ all (onward (blockStep j f (at + length (b ∷ bs)) line d g) later)
+        blocks (Block.Direct d) g = carried (carryDirect j f line d g)
+        blocks (Block.Call n) g = ap (andThen (c f n line g)) (fun-ext past) ∙ sym (still-then g (following t (Stop.Call n (at + length (b ∷ bs)) line)))
+        blocks (Block.Outside o) g = refl
+
+        begins :
+            (out : Out Begun)
+            → andThen (_>>=_ out (λ x. carry j c f line (x .block) (x .progress))) rest
+            ≡ all (onward (begunStep j f (at + length (b ∷ bs)) line out) later)
+        begins (refused number place) = refl
+        begins (done x) = blocks (x .block) (x .progress)
+
+    lines-all : (ls : List (List ℕ)) (at line : ℕ) (g : Progress) → lines (drop at t) ≡ ls → runLines j c f line ls g ≡ all (stretch j f at line ls g)
+    unfolding runLines stretch
+    lines-all [] at line g e = refl
+    lines-all (l ∷ ls) at line g e =
+        let w = first-line t at l ls e in
+        line-all at line l g (runLines j c f (suc line) ls) (stretch j f (at + length l + 1) (suc line) ls) (w .2)
+        (λ h. lines-all ls (at + length l + 1) (suc line) h (w .1))
+        (λ h. ap (λ (k : List (List ℕ)). runLines j c f (suc line) k h) (sym (w .1)) ∙ past-line t (at + length l) line h (w .2))
+
+    -- from a place on
+    pub lines-stretched : (at line : ℕ) (g : Progress) → runLines j c f line (lines (drop at t)) g ≡ all (stretch j f at line (lines (drop at t)) g)
+    lines-stretched at line g = lines-all (lines (drop at t)) at line g refl
+
+-- ---- A status that is told
+
+pub status-as :
+    {A : Type 0} {hitsOf : A → ℕ} {job : Job} {status : Status} {left : A} {before after : Lent} {k : ℕ} {out : Out (Made A)} {number line : ℕ} → status ≡ Refused number line
+    → Ran hitsOf job status left before after k out → Ran hitsOf job (Refused number line) left before after k out
+status-as e ran = rw e at ran
+
+pub passed-as :
+    {A : Type 0} {hitsOf : A → ℕ} {job : Job} {status : Status} {left : A} {before after : Lent} {k : ℕ} {out : Out (Made A)} → status ≡ Passed
+    → Ran hitsOf job status left before after k out → Ran hitsOf job Passed left before after k out
+passed-as e ran = rw e at ran

@@ -1,0 +1,4 @@
+pub mod Macros
+pub mod Stretches
+pub mod Turns
+pub mod Stops

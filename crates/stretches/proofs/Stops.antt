@@ -1,0 +1,109 @@
+-- Where a stretch ends at a block: the line of that block ends behind the place where the stretch began, within the text, and
+-- its number goes up with the place.
+use mathlib.Core.Path.{_≡_, refl, sym, ap, _∙_, subst}
+use mathlib.Core.Bool.{Bool, true, false}
+use mathlib.Core.List.{List, [], _∷_, head-eq-of-cons-eq, tail-eq-of-cons-eq}
+use Prim.Native.Nat.{ℕ, zero, suc, _+_, _<_, _≤_}
+use native.Mathlib.Omega.{arith}
+use borrow.Author.Tests.{ltb-true, ltb-false}
+use lib.Dec.{ltb}
+use lib.ListN.{length, getD, drop, length-drop}
+use lib.Seq.{length-take-le, getD-drop}
+use Rattle.aries.specs.declared.block.Block.{Block}
+use Rattle.aries.specs.declared.block.Block.the-variants as Block
+use Rattle.aries.specs.declared.state.Frame.{Frame}
+use Rattle.aries.specs.declared.state.Progress.{Progress}
+use Rattle.aries.specs.Outcome.{Out, done, refused}
+use Rattle.aries.specs.Hits.{Made}
+use Rattle.aries.specs.Judging.{Judging}
+use Rattle.aries.specs.Macros.{carryDirect, Begun, begin}
+use Rattle.aries.specs.Text.{lines, lineFeed}
+use Rattle.text.specs.Lines.{lineLength, lineAt, lineEnd}
+use Rattle.text.proofs.Lines.{line-short, line-inside, feed-after, lines-at, lines-past}
+use Rattle.stretches.specs.declared.Stop.{Stop}
+use Rattle.stretches.specs.declared.Stop.the-variants as Stop
+use Rattle.stretches.specs.Stretches.{Stretched, Step, goes, ends, stepOf, blockStep, begunStep, lineStep, onward, stretch}
+
+-- a block's line that ends at a place of a text, seen from another place and its line
+pub record Behind (t : List ℕ) (at line end place : ℕ) : Type 0 where
+  pub after : at < end
+  pub inside : end ≤ length t
+  pub paced : place + at ≤ line + end
+
+abbrev pub Stops : List ℕ → ℕ → ℕ → Stop → Type 0
+Stops t at line Stop.End = Unit {0}
+Stops t at line (Stop.Call n end place) = Behind t at line end place
+Stops t at line (Stop.Outside o end place) = Behind t at line end place
+
+-- from further back
+further : (t : List ℕ) (at line at' line' : ℕ) (s : Stop) → at ≤ at' → line' + at ≤ line + at' → Stops t at' line' s → Stops t at line s
+further t at line at' line' Stop.End h k b = tt
+further t at line at' line' (Stop.Call n end place) h k b = record { after = omega (arith, b .after); inside = b .inside; paced = omega (arith, b .paced) }
+further t at line at' line' (Stop.Outside o end place) h k b = record { after = omega (arith, b .after); inside = b .inside; paced = omega (arith, b .paced) }
+
+-- a step that ends the stretch
+abbrev StepStops : List ℕ → ℕ → ℕ → Step → Type 0
+StepStops t at line (goes m) = Unit {0}
+StepStops t at line (ends s) = Stops t at line (s .stop)
+
+onward-stops :
+    (t : List ℕ) (at line : ℕ) (step : Step) (rest : Progress → Stretched) → StepStops t at line step → ((g : Progress) → Stops t at line (rest g .stop))
+    → Stops t at line (onward step rest .stop)
+onward-stops t at line (goes m) rest s r = r (m .after)
+onward-stops t at line (ends s) rest h r = h
+
+-- a first line there is lies within the text, and a line feed stands behind it unless the text ends there
+pub first-line :
+    (t : List ℕ) (at : ℕ) (l : List ℕ) (ls : List (List ℕ)) → lines (drop at t) ≡ l ∷ ls
+    → (at + length l ≤ length t) × (lines (drop (at + length l + 1) t) ≡ ls) × (at + length l < length t → getD t (at + length l) 0 ≡ lineFeed)
+first-line t at l ls e = go (ltb at (length t)) refl
+  where
+    go :
+        (b : Bool) → ltb at (length t) ≡ b
+        → (at + length l ≤ length t) × (lines (drop (at + length l + 1) t) ≡ ls) × (at + length l < length t → getD t (at + length l) 0 ≡ lineFeed)
+    go false p =
+        let z : [] ≡ l ∷ ls = sym (lines-past t at (ltb-false at (length t) p)) ∙ e in
+        let w : _≡_ {A = ℕ} 0 1 = cc in
+        absurd (omega arith)
+    go true p =
+        let i = ltb-true at (length t) p in
+        let c : lineAt t at ∷ lines (drop (lineEnd t at + 1) t) ≡ l ∷ ls = sym (lines-at t at i) ∙ e in
+        let n : length l ≡ lineLength (drop at t) = sym (ap length (head-eq-of-cons-eq c)) ∙ length-take-le (lineLength (drop at t)) (drop at t) (line-short (drop at t)) in (
+          omega (arith, n, line-inside t at (omega (arith, i))),
+          ap (λ (k : ℕ). lines (drop (at + k + 1) t)) n ∙ tail-eq-of-cons-eq c,
+          λ h. ap (λ (k : ℕ). getD t (at + k) 0) n ∙ sym (getD-drop at t (lineLength (drop at t)) 0) ∙ feed-after (drop at t) (simp length-drop (omega (arith, n))),
+        )
+
+module _ (t : List ℕ) (j : Judging) (f : Frame) where
+  -- one line
+  line-stops : (at line : ℕ) (l : List ℕ) (g : Progress) → at + length l ≤ length t → StepStops t at line (lineStep j f (at + length l) line l g)
+  line-stops at line [] g h = tt
+  line-stops at line (b ∷ bs) g h = begins (begin j line (b ∷ bs) g)
+    where
+      behind : Behind t at line (at + length (b ∷ bs)) line
+      behind = record { after = omega arith; inside = h; paced = omega arith }
+
+      carried : (out : Out (Made Progress)) → StepStops t at line (stepOf out)
+      carried (done m) = tt
+      carried (refused number place) = tt
+
+      blocks : (d : Block) (g : Progress) → StepStops t at line (blockStep j f (at + length (b ∷ bs)) line d g)
+      blocks (Block.Direct d) g = carried (carryDirect j f line d g)
+      blocks (Block.Call n) g = behind
+      blocks (Block.Outside o) g = behind
+
+      begins : (out : Out Begun) → StepStops t at line (begunStep j f (at + length (b ∷ bs)) line out)
+      begins (refused number place) = tt
+      begins (done x) = blocks (x .block) (x .progress)
+
+  lines-stop : (ls : List (List ℕ)) (at line : ℕ) (g : Progress) → lines (drop at t) ≡ ls → Stops t at line (stretch j f at line ls g .stop)
+  unfolding stretch
+  lines-stop [] at line g e = tt
+  lines-stop (l ∷ ls) at line g e =
+      let w = first-line t at l ls e in
+      onward-stops t at line (lineStep j f (at + length l) line l g) (stretch j f (at + length l + 1) (suc line) ls) (line-stops at line l g (w .0))
+      (λ h. further t at line (at + length l + 1) (suc line) (stretch j f (at + length l + 1) (suc line) ls h .stop) (omega arith) (omega arith) (lines-stop ls (at + length l + 1) (suc line) h (w .1)))
+
+  -- the stretch from a place on
+  pub stretch-stops : (at line : ℕ) (g : Progress) → Stops t at line (stretch j f at line (lines (drop at t)) g .stop)
+  stretch-stops at line g = lines-stop (lines (drop at t)) at line g refl
