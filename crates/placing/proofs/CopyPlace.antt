@@ -10,9 +10,10 @@ use Rattle.aries.specs.declared.point.Point.{Point}
 use Rattle.aries.specs.Lanes.{lane, along}
 use Rattle.aries.specs.Layouts.{copyCount, placeAt, copyPlace}
 use Rattle.aries.specs.Test.{pick}
+use Rattle.aries.proofs.Lanes.{lane-bound}
 use Rattle.lanes.specs.declared.Cursor.{Cursor}
 use Rattle.lanes.specs.Cursors.{cursorAt, passed}
-use Rattle.lanes.proofs.Cursors.{at-passed, passed-at, rest-within, lane-within}
+use Rattle.lanes.proofs.Cursors.{at-passed, passed-at, rest-within}
 use Rattle.placing.specs.Places.{laneEnd, lastLane}
 
 -- ---- How many places there are
@@ -77,11 +78,11 @@ module _ (l : Layout) (c : Copies) (last m : ℕ) (k : Cursor) (ends : last ≡ 
   module _ (more : m < copyCount l) where
     -- it lies within the layout
     pub cursor-inside : (k .rest ≤ laneEnd l c) × (k .lane ≤ lastLane l c)
-    cursor-inside = rw (here, ends) (rest-within (laneEnd l c) m, lane-within (laneEnd l c) (lastLane l c) m (omega (arith, count-lanes l c)))
+    cursor-inside = rw (here, ends) (rest-within (laneEnd l c) m, lane-bound (laneEnd l c) (lastLane l c) m (omega (arith, count-lanes l c)))
 
     -- it can be advanced
     pub may-advance : l .steps .x ≤ 65535 → l .steps .y ≤ 65535 → (k .rest ≤ last) × (lane last (suc (passed last k)) ≤ 4294967295)
     may-advance x y =
-        let w : lane (laneEnd l c) (suc m) ≤ suc (lastLane l c) = lane-within (laneEnd l c) (suc (lastLane l c)) (suc m) (omega (arith, count-lanes l c)) in
+        let w : lane (laneEnd l c) (suc m) ≤ suc (lastLane l c) = lane-bound (laneEnd l c) (suc (lastLane l c)) (suc m) (omega (arith, count-lanes l c)) in
         let f = lane-few l c x y in
         rw (passed-here, here, ends) (rest-within (laneEnd l c) m, omega arith)
