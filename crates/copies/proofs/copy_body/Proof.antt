@@ -22,7 +22,7 @@ use Rattle.aries.proofs.Runs.{Leads, leads-start, leads-as, leads-on, leads-out
 use Rattle.lanes.specs.Cursors.{cursorAt}
 use Rattle.lanes.proofs.Cursors.{at-zero}
 use Rattle.bodies.specs.declared.Opening.{Opening}
-use Rattle.placing.proofs.CopyPlace.{cursor-inside, place-here, may-advance, advanced}
+use Rattle.placing.proofs.CopyPlace.{count-fits, cursor-inside, place-here, may-advance, advanced}
 use Rattle.copies.specs.Copying.{openedPart}
 use Rattle.copies.proofs.CopyAll.{copies-step, copies-end}
 use Rattle.copies.proofs.copy_body.Statement.{statement}
@@ -143,7 +143,10 @@ next-requires c κs =
     may-advance (a .layout) (a .copies) (l .result) (p .m) (p .cursor) (l .ensures) (p .inv .1) (more t) (f .0) (f .1)
 
 add-m : tie.Need-add-m Inv-loop μ-loop
-add-m c = let t = c .before .before .before .before .before .before .before .before in record { fits = omega (arith, t .loop-test .taken, t .before .before .before .copy-count .ok) }
+add-m c =
+    let t = c .before .before .before .before .before .before .before .before in
+    let f = steps-fit (entry (t .before)) in
+    record { fits = omega (arith, t .loop-test .taken, t .before .before .before .copy-count .ensures, count-fits _ _ (f .0) (f .1)) }
 
 loop-less : tie.Need-loop-less Inv-loop μ-loop
 loop-less c = let t = c .before .before .before .before .before .before .before .before in omega (arith, t .loop-test .taken)
