@@ -3,29 +3,24 @@ use mathlib.Core.Path.{_≡_, refl, sym, ap, _∙_}
 use mathlib.Core.Bool.{Bool, true, false}
 use mathlib.Core.List.{List, [], _∷_, _++_}
 use mathlib.Core.Option.{Option, none, some}
-use Prim.Native.Nat.{ℕ, _+_, _-_, _*_, _<_, _≤_}
+use Prim.Native.Nat.{ℕ, _+_, _-_, _*_, _/_, _<_, _≤_}
 use native.Mathlib.Omega.{arith}
-use denote.Enum.Declared.{tagOf}
-use types.Run.{OneOf, miss}
 use borrow.Author.Tests.{le-leb, lt-leb}
 use lib.Dec.{leb}
 use lib.IntN.{ℤ, pos}
 use lib.ListN.{length, take, replicate}
-use Rattle.aries.proofs.setup.Stage.{the-type}
 use Rattle.aries.specs.declared.answer.Answer.{Answer}
 use Rattle.aries.specs.declared.answer.Answer.the-variants as Answer
+use Rattle.aries.specs.declared.job.Job.{Job}
 use Rattle.aries.specs.declared.setup.Program.{Program}
-use Rattle.aries.specs.declared.setup.Stage.{Stage}
-use Rattle.aries.specs.declared.setup.Stage.the-variants.{Fresh, Running, Storing, Ended}
 use Rattle.aries.specs.declared.state.Status.{Status}
 use Rattle.aries.specs.declared.state.Status.the-variants.{Passed, Refused}
 use Rattle.aries.specs.Outcome.{Out, done, refused}
 use Rattle.aries.specs.Text.{lines, strayLine, withoutSpaces}
 use Rattle.aries.specs.Hits.{Hit, cells, Made}
-use Rattle.aries.specs.Judging.{lent}
-use Rattle.aries.specs.Setup.{freshProgram}
-use Rattle.aries.specs.Program.{isEnded, runFrom, perform, expand, answerOf, listOf}
-use Rattle.aries.specs.Runs.{statusOf, Ran, over}
+use Rattle.aries.specs.Judging.{lending, limits}
+use Rattle.aries.specs.Program.{freshProgram, isEnded, runFrom, perform, expand, answerOf, listOf}
+use Rattle.aries.specs.Runs.{Lent, lent, statusOf, hitsOfProgram, Ran, over}
 use Rattle.aries.proofs.Runs.{passed-done}
 use Rattle.text.specs.declared.Cleaned.{Cleaned}
 use Rattle.text.specs.declared.Cleaned.the-variants.{Stray, Dense}
@@ -33,10 +28,6 @@ use Rattle.text.specs.Cleaning.{cleaned}
 use Rattle.tolkjirp.specs.Answers.{Answers}
 use Rattle.tolkjirp.specs.Cleaned.{afterCleaning}
 use Rattle.tolkjirp.proofs.Lists.{cleared-past}
-
--- the hits counted by a program
-abbrev pub hits : Program → ℕ
-hits p = p .progress .hits
 
 -- ---- Answers
 
@@ -50,7 +41,7 @@ answers-refused answer list numbers number line out a l o = rw o (record { answe
 -- hits, with the rest of the list cleared
 answers-hits :
     (answer : Answer) (list before after : List ℤ) (count : ℕ) (hs : List Hit) (out : Out (List Hit))
-    → answer ≡ Answer.Hits count → count ≡ length hs → 4 * length hs ≤ length before → after ≡ over before 0 hs
+    → answer ≡ Answer.Hits count → count ≡ length hs → length hs ≤ length before / 4 → after ≡ over (lent before) 0 hs .list
     → list ≡ take (count * 4) after ++ replicate (length after - count * 4) (pos 0) → length after ≡ length before → out ≡ done hs
     → Answers answer list (length before) out
 unfolding listOf
@@ -68,58 +59,54 @@ answers-hits answer list before after count hs out a c f w l n o =
 -- ---- The ways out of a performance
 
 module _ (list after : List ℤ) (text : List ℕ) (last : ℕ) (left : Program) (status : Status)
-    (ran : Ran hits status left list after 0 (runFrom (lent (length list)) text 0 1 (lines text) freshProgram)) where
+    (ran : Ran hitsOfProgram (lending (length list)) status left (lent list) (lent after) 0 (runFrom (limits (lending (length list))) text 0 1 (lines text) (freshProgram (lending (length list))))) where
+  abbrev job : Job
+  job = lending (length list)
+
+  abbrev whole : Out (Made Program)
+  whole = runFrom (limits job) text 0 1 (lines text) (freshProgram job)
+
   -- what was refused on the way
-  pub perform-refused : (number line : ℕ) → status ≡ Refused number line → perform (lent (length list)) text last ≡ refused number line
+  pub perform-refused : (number line : ℕ) → status ≡ Refused number line → perform (lending (length list)) text last ≡ refused number line
   unfolding perform
-  perform-refused number line e = go (runFrom (lent (length list)) text 0 1 (lines text) freshProgram) refl (sym e ∙ ran .same-status)
+  perform-refused number line e = go (whole) refl (sym e ∙ ran .same-status)
     where
       go :
-          (out : Out (Made Program)) → runFrom (lent (length list)) text 0 1 (lines text) freshProgram ≡ out → Refused number line ≡ statusOf out
-          → perform (lent (length list)) text last ≡ refused number line
+          (out : Out (Made Program)) → whole ≡ out → Refused number line ≡ statusOf out
+          → perform (lending (length list)) text last ≡ refused number line
       go (refused n l) q r = let a : number ≡ n = cc in let b : line ≡ l = cc in rw (q, a, b)
       go (done m) q r = let z : _≡_ {A = ℕ} 0 1 = cc in absurd (omega arith)
 
   module _ (passes : status ≡ Passed) where
-    done-run : (m : Made Program) × (runFrom (lent (length list)) text 0 1 (lines text) freshProgram ≡ done m)
-    done-run = passed-done hits (runFrom (lent (length list)) text 0 1 (lines text) freshProgram) (sym passes ∙ ran .same-status)
+    done-run : (m : Made Program) × (whole ≡ done m)
+    done-run = passed-done whole (sym passes ∙ ran .same-status)
 
     stage-is : left .stage ≡ done-run .0 .after .stage
     stage-is = ap (λ (p : Program). p .stage) (ran .same-left (done-run .0) (done-run .1))
 
     -- no G50
-    pub perform-open : isEnded (left .stage) ≡ false → perform (lent (length list)) text last ≡ refused 7 last
+    pub perform-open : isEnded (left .stage) ≡ false → perform (lending (length list)) text last ≡ refused 7 last
     unfolding perform
     perform-open e = let f : isEnded (done-run .0 .after .stage) ≡ false = rw stage-is at e in simp (done-run .1, f)
 
     -- the hits
     pub perform-hits :
-        (answer : Answer) (final : List ℤ) → isEnded (left .stage) ≡ true → length after ≡ length list → answer ≡ Answer.Hits (hits left)
-        → final ≡ take (hits left * 4) after ++ replicate (length after - hits left * 4) (pos 0)
-        → Answers answer final (length list) (perform (lent (length list)) text last)
+        (answer : Answer) (final : List ℤ) → isEnded (left .stage) ≡ true → length after ≡ length list → answer ≡ Answer.Hits (hitsOfProgram left)
+        → final ≡ take (hitsOfProgram left * 4) after ++ replicate (length after - hitsOfProgram left * 4) (pos 0)
+        → Answers answer final (length list) (perform (lending (length list)) text last)
     unfolding perform
     perform-hits answer final e n a l =
         let m = done-run .0 in
         let f : isEnded (m .after .stage) ≡ true = rw stage-is at e in
         let c0 = ran .counted m (done-run .1) in
-        let c : hits left ≡ length (m .hits) = omega arith in
-        let g : 4 * hits left ≤ length list = ran .fitted m (done-run .1) (omega arith) in
-        answers-hits answer final list after (hits left) (m .hits) (perform (lent (length list)) text last) a c (omega arith)
-        (ran .written m (done-run .1)) l n (simp (done-run .1, f))
+        let c : hitsOfProgram left ≡ length (m .hits) = omega arith in
+        let g : hitsOfProgram left ≤ length list / 4 = ran .fitted m (done-run .1) (omega arith) in
+        answers-hits answer final list after (hitsOfProgram left) (m .hits) (perform (lending (length list)) text last) a c (omega arith)
+        (ap (λ (x : Lent). x .list) (ran .written m (done-run .1))) l n (simp (done-run .1, f))
 
     -- the hits have places
-    pub hits-fit : 4 * hits left ≤ length list
-    hits-fit = ran .fitted (done-run .0) (done-run .1) (omega arith)
-
--- every stage but the end
-abbrev pub notEnded : List ℕ
-notEnded = 0 ∷ 1 ∷ 2 ∷ []
-
-pub not-ended : (s : Stage) → OneOf notEnded (tagOf the-type s) → isEnded s ≡ false
-not-ended Fresh h = refl
-not-ended Running h = refl
-not-ended Storing h = refl
-not-ended Ended h = absurd (miss notEnded 3 tt h)
+    pub hits-fit : 4 * hitsOfProgram left ≤ length list
+    hits-fit = let g = ran .fitted (done-run .0) (done-run .1) (omega arith) in omega arith
 
 -- ---- The ways out of an expansion
 
@@ -141,7 +128,7 @@ after-stray text numbers line e = simp e
 
 pub after-dense :
     (text : List ℕ) (numbers : ℕ) → strayLine 1 text ≡ none
-    → afterCleaning text numbers ≡ perform (lent numbers) (withoutSpaces text) (length (lines text))
+    → afterCleaning text numbers ≡ perform (lending numbers) (withoutSpaces text) (length (lines text))
 after-dense text numbers e = simp e
 
 pub expand-empty : (text : List ℕ) (numbers : ℕ) → length text ≡ 0 → expand text numbers ≡ refused 1 0

@@ -1,14 +1,15 @@
 -- The lent list: hits written from its start, and what is cleared past them.
 use mathlib.Core.Path.{_≡_, refl, sym, ap, _∙_}
 use mathlib.Core.List.{List, [], _∷_, _++_, append-nil, append-assoc}
-use Prim.Native.Nat.{ℕ, zero, suc, _+_, _-_, _*_, _<_, _≤_}
+use Prim.Native.Nat.{ℕ, zero, suc, _+_, _-_, _*_, _/_, _<_, _≤_}
 use native.Mathlib.Omega.{arith}
 use native.Mathlib.Numerals.{add-one}
 use lib.IntN.{ℤ, pos}
-use lib.ListN.{length, getD, take, drop, set, replicate, length-append, length-replicate, length-take, length-drop, take-append-drop, drop-of-length-le}
+use lib.ListN.{length, getD, take, drop, set, replicate, length-append, length-replicate, length-take, length-set, length-drop, take-append-drop, drop-of-length-le}
 use lib.Seq.{sets, sets-eq, take-at, set-at, append-snoc, drop-cons, length-take-le}
 use Rattle.aries.specs.Hits.{Hit, cells, modeNumber}
-use Rattle.aries.specs.Runs.{put, over}
+use Rattle.aries.specs.Runs.{Lent, lent, write, over}
+use Rattle.aries.proofs.Runs.{put-inside}
 
 -- four numbers a hit
 pub length-cells : (hs : List Hit) → length (cells hs) ≡ 4 * length hs
@@ -16,28 +17,31 @@ unfolding cells
 length-cells [] = refl
 length-cells (h ∷ hs) = let e = length-cells hs in omega arith
 
--- hits written one by one are their numbers written one by one
-over-sets : (l : List ℤ) (k : ℕ) (hs : List Hit) → over l k hs ≡ sets l (4 * k) (cells hs)
+-- hits put one by one that all have places are their numbers written one by one
+over-sets : (l : List ℤ) (k : ℕ) (hs : List Hit) → k + length hs ≤ length l / 4 → over (lent l) k hs .list ≡ sets l (4 * k) (cells hs)
 unfolding over cells
-over-sets l k [] = refl
-over-sets l k (h ∷ hs) =
+over-sets l k [] h = refl
+over-sets l k (x ∷ hs) h =
     let e : 4 * (k + 1) ≡ suc (suc (suc (suc (4 * k)))) = omega arith in
     let a : 4 * k + 1 ≡ suc (4 * k) = omega arith in
     let b : 4 * k + 2 ≡ suc (suc (4 * k)) = omega arith in
     let c : 4 * k + 3 ≡ suc (suc (suc (4 * k))) = omega arith in
-    over-sets (put l k h) (k + 1) hs ∙ rw (e, a, b, c)
+    let n : length (write l k x) ≡ length l = simp length-set in
+    ap (λ (m : Lent). over m (k + 1) hs .list) (put-inside (lent l) k x (omega arith))
+    ∙ over-sets (write l k x) (k + 1) hs (rw n (omega arith))
+    ∙ rw (e, a, b, c)
 
 -- the list with hits from its start
-pub over-start : (l : List ℤ) (hs : List Hit) → 4 * length hs ≤ length l → over l 0 hs ≡ cells hs ++ drop (4 * length hs) l
+over-start : (l : List ℤ) (hs : List Hit) → length hs ≤ length l / 4 → over (lent l) 0 hs .list ≡ cells hs ++ drop (4 * length hs) l
 over-start l hs h =
     let n : 0 + length (cells hs) ≤ length l = omega (arith, length-cells hs) in
     let e : 0 + length (cells hs) ≡ 4 * length hs = omega (arith, length-cells hs) in
-    over-sets l 0 hs ∙ sets-eq (cells hs) l 0 n ∙ ap (λ (k : ℕ). cells hs ++ drop k l) e
+    over-sets l 0 hs (omega arith) ∙ sets-eq (cells hs) l 0 n ∙ ap (λ (k : ℕ). cells hs ++ drop k l) e
 
 -- cleared past the hits
 pub cleared-past :
-    (l : List ℤ) (hs : List Hit) → 4 * length hs ≤ length l
-    → take (length hs * 4) (over l 0 hs) ++ replicate (length l - length hs * 4) (pos 0) ≡ cells hs ++ replicate (length l - length (cells hs)) (pos 0)
+    (l : List ℤ) (hs : List Hit) → length hs ≤ length l / 4
+    → take (length hs * 4) (over (lent l) 0 hs .list) ++ replicate (length l - length hs * 4) (pos 0) ≡ cells hs ++ replicate (length l - length (cells hs)) (pos 0)
 cleared-past l hs h =
     let e : length (cells hs) ≡ length hs * 4 = omega (arith, length-cells hs) in
     ap (λ (r : List ℤ). take (length hs * 4) r ++ replicate (length l - length hs * 4) (pos 0)) (over-start l hs h)

@@ -8,7 +8,7 @@ use borrow.Author.Needs.{needs}
 use lib.ListN.{length, take}
 use lib.Seq.{length-take-le}
 use Rattle.aries.specs.Text.{lines, strayLine, withoutSpaces}
-use Rattle.aries.specs.Judging.{lent}
+use Rattle.aries.specs.Judging.{lending}
 use Rattle.aries.specs.Program.{perform}
 use Rattle.text.proofs.Cleaning.{dense-short}
 use Rattle.tolkjirp.proofs.Endings.{answers-refused, answers-as, stray-found, dense-found, after-stray, after-dense}
@@ -87,7 +87,7 @@ returns-2 c =
     let p = c .before .perform in
     let n = length (a .list .now) in
     answers-as (p .result) (p .last .0) n _ _
-    (ap (λ (t : List ℕ). perform (lent n) t (length (lines (a .text .now)))) (held (c .before .before .before .before)) ∙ sym (after-dense (a .text .now) n (told (c .before .before .before .before) .0))) (p .ensures)
+    (ap (λ (t : List ℕ). perform (lending n) t (length (lines (a .text .now)))) (held (c .before .before .before .before)) ∙ sym (after-dense (a .text .now) n (told (c .before .before .before .before) .0))) (p .ensures)
 
 pub expand-through-spec : {M : Type 1} → statement M
 expand-through-spec =
