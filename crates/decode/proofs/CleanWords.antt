@@ -3,11 +3,10 @@ use mathlib.Core.Path.{_≡_}
 use mathlib.Core.List.{List}
 use mathlib.Core.Option.{some}
 use Prim.Native.Nat.{ℕ}
-use lib.ListN.{length}
 use Rattle.aries.specs.declared.word.Words.{Words}
-use Rattle.aries.specs.Words.{Read, word, noWords, words}
+use Rattle.aries.specs.Words.{Read, word, words}
 use Rattle.words.proofs.Word.{formed}
-use Rattle.words.proofs.Gathering.{gather-keeps}
+use Rattle.words.proofs.Gathering.{words-keep}
 use Rattle.blocks.specs.Clean.{CleanWord, Clean}
 use Rattle.blocks.proofs.Clean.{noWords-clean, written-clean, added-clean}
 
@@ -16,6 +15,4 @@ word-clean : (bs : List ℕ) (r : Read) → word bs ≡ some r → CleanWord (r 
 word-clean bs r e = let f = formed bs r e in written-clean (r .word) (f .written) (f .small)
 
 pub words-clean : (bs : List ℕ) (w : Words) → words bs ≡ some w → Clean w
-unfolding words
-words-clean bs w e =
-    gather-keeps Clean (λ v l r f c. added-clean v c (r .letter) (r .word) (word-clean l r f)) (length bs) noWords w bs noWords-clean e
+words-clean = words-keep Clean (λ v l r f c. added-clean v c (r .letter) (r .word) (word-clean l r f)) noWords-clean

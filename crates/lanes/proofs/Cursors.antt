@@ -50,6 +50,10 @@ next-lane last c h k =
     let e : passed last (cursor (c .lane + 1) 0) ≡ suc (passed last c) = omega arith in
     sym (at-passed last (cursor (c .lane + 1) 0) (omega arith)) ∙ ap (cursorAt last) e
 
+-- the lane of a cursor's place
+pub lane-passed : (last : ℕ) (c : Cursor) → c .rest ≤ last → lane last (passed last c) ≡ c .lane
+lane-passed last c h = ap (λ (d : Cursor). d .lane) (at-passed last c h)
+
 -- how far along its lane a cursor's place lies
 pub along-passed : (last : ℕ) (c : Cursor) → c .rest ≤ last → along last (passed last c) ≡ pick (eqb (c .lane % 2) 0) (c .rest) (last - c .rest)
 along-passed last c h =

@@ -1,5 +1,5 @@
--- Laws of how many hits a pattern makes and how far they reach.
-use mathlib.Core.Path.{_≡_, ap, _∙_}
+-- Laws of how many hits a grid makes, and of how far patterns reach.
+use mathlib.Core.Path.{_≡_}
 use mathlib.Core.Bool.{Bool, true, false}
 use Prim.Native.Nat.{ℕ, suc, _+_, _-_, _*_, _≤_, _<_}
 use native.Mathlib.Nat.{mul-le-mul, le-trans, le-refl}
@@ -8,15 +8,10 @@ use lib.IntN.{ℤ, pos, natAbs, _*ℤ_}
 use borrow.Author.Tests.{leb-true, le-leb}
 use Rattle.signed.proofs.Integers.{abs-*ℤ}
 use Rattle.lanes.proofs.Cursors.{lane-within}
-use Rattle.aries.specs.declared.point.Point.{Point}
 use Rattle.aries.specs.declared.block.Steps.{Steps}
-use Rattle.aries.specs.declared.block.Pattern.{Pattern}
-use Rattle.aries.specs.declared.block.Pattern.the-variants.{Grid}
-use Rattle.aries.specs.Test.{pick}
 use Rattle.aries.specs.Judging.{isNear, farthest}
 use Rattle.aries.specs.Lanes.{lane}
-use Rattle.aries.specs.Patterns.{holes}
-use Rattle.patterns.specs.Aims.{laneEnd}
+use Rattle.patterns.specs.Offsets.{laneEnd}
 
 -- columns times rows, of 16 bits each
 pub places-small : (x y : ℕ) → x < 65536 → y < 65536 → (x + 1) * (y + 1) ≤ 4294967296
@@ -24,10 +19,6 @@ places-small x y h k =
     let p : x + 1 ≤ 65536 = omega arith in
     let q : y + 1 ≤ 65536 = omega arith in
     mul-le-mul p q
-
--- the places of a grid but its start
-pub places-but-one : (x y : ℕ) → (x + 1) * (y + 1) - 1 ≡ suc x * suc y - 1
-places-but-one x y = omega arith
 
 -- a near coordinate, in size
 pub near-size : (z : ℤ) → isNear z ≡ true → natAbs z ≤ farthest
@@ -41,12 +32,9 @@ nearer n count pitch h e = le-leb (natAbs (pos n *ℤ pitch)) farthest (le-trans
     shorter = rw (abs-*ℤ (pos n) pitch, abs-*ℤ (pos count) pitch) (mul-le-mul h (le-refl (natAbs pitch)))
 
 -- a hit of a grid lies in one of its rows, or columns, of 16 bits
-pub lane-small : (p : Pattern) (vertical : Bool) (pitch : Point) (steps : Steps) (last k : ℕ) → p ≡ Grid vertical pitch steps → last ≡ laneEnd p → k < holes p → steps .x < 65536 → steps .y < 65536 → lane last (suc k) ≤ 65535
-unfolding laneEnd holes
-lane-small p vertical pitch steps last k e l h x y =
-    let m : k < suc (steps .x) * suc (steps .y) - 1 = rw (ap holes e) at h in
-    rw (l ∙ ap laneEnd e) (go vertical (omega arith))
-  where
-    go : (v : Bool) → suc k < suc (steps .x) * suc (steps .y) → lane (pick v (steps .y) (steps .x)) (suc k) ≤ 65535
-    go true n = let q : suc k < suc (steps .y) * suc (steps .x) = omega arith in omega (arith, lane-within (steps .y) (steps .x) (suc k) q)
-    go false n = omega (arith, lane-within (steps .x) (steps .y) (suc k) n)
+pub lane-small : (vertical : Bool) (steps : Steps) (last k : ℕ) → last ≡ laneEnd vertical steps → k < suc (steps .x) * suc (steps .y) - 1
+    → steps .x < 65536 → steps .y < 65536 → lane last (suc k) ≤ 65535
+lane-small true steps last k e h x y =
+    let q : suc k < suc last * suc (steps .x) = rw e (omega arith) in omega (arith, lane-within last (steps .x) (suc k) q)
+lane-small false steps last k e h x y =
+    let q : suc k < suc last * suc (steps .y) = rw e (omega arith) in omega (arith, lane-within last (steps .y) (suc k) q)

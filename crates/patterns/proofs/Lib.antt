@@ -1,5 +1,4 @@
 pub mod Circles
+pub mod Comes
 pub mod Holes
 pub mod Offsets
-pub mod Patterns
-pub mod Punches

@@ -1,96 +1,60 @@
-use crate::places;
+use crate::series;
+use crate::series::Punch;
 use crate::sizes;
 use aries::block::Pattern;
-use aries::point::Point;
 use aries::refusal;
 use aries::state::Frame;
 use aries::state::Outcome;
 use aries::state::Progress;
+use aries::state::Status;
 use aries::state::Stored;
-use lanes::Cursor;
-use press::hits;
 ghost use mathlib.Core.Path.{_≡_};
-ghost use mathlib.Core.Bool.{true};
-ghost use lib.ListN.{length};
-ghost use Rattle.aries.specs.Judging.{lent};
-ghost use Rattle.aries.specs.Hits.{leaving};
-ghost use Rattle.aries.specs.Runs.{Carried};
 ghost use Rattle.aries.specs.Patterns as Patterns;
-ghost use Rattle.aries.specs.Patterns.{holes, reaches, punches, ending, runPattern, recall};
+ghost use Rattle.aries.specs.Patterns.{runPattern, recall};
+ghost use Rattle.aries.specs.Runs.{lent, Carried};
+ghost use Rattle.patterns.specs.Series.{statusAt};
 
-// A circle ends at its start, any other pattern at its last hit.
-fn ending(pattern: Pattern, start: Point, progress: Progress) -> Progress
-    ensures { λ r. ⌜ r ≡ ending pattern start progress ⌝ }
+// The status by a refusal's number, which is 0 for none.
+fn status_at(number: u8, line: u64) -> Status
+    ensures { λ r. ⌜ r ≡ statusAt number line ⌝ }
 {
-    let state = progress.state;
-    match pattern {
-        Pattern::Line { .. } => progress,
-        Pattern::Arc { .. } => progress,
-        Pattern::Circle { .. } => progress.with_state(state.moved_to(start)),
-        Pattern::Grid { .. } => progress,
+    if 0 < number {
+        Status::Refused(number, line)
+    } else {
+        Status::Passed
     }
-}
-
-// Makes the hits of a pattern in turn, up to the first refusal, and ends it.
-fn punch_hits(
-    list: &mut [i32],
-    frame: Frame,
-    line: u64,
-    pattern: Pattern,
-    start: Point,
-    progress: Progress,
-) -> Outcome
-    requires { ⌜ reaches pattern ≡ true ⌝ }
-    ensures { λ r. ⌜ Carried r (now (list .entry)) (now (list .exit)) (progress .hits) (leaving (ending pattern start) (punches (lent (length (now (list .entry)))) frame line pattern start (holes pattern) 0 progress)) ⌝ }
-{
-    let count = sizes::holes(pattern);
-    let degrees = sine::degree_sines();
-    let sines = sine::hundredth_sines();
-    let cosines = sine::hundredth_cosines();
-    let aim = places::take_aim(pattern, &degrees, &sines, &cosines);
-    let state = progress.state;
-    let mut current = state.current;
-    let mut hits = progress.hits;
-    let mut cursor = Cursor::first();
-    let mut k = 0;
-    while k < count {
-        cursor = cursor.next(aim.last);
-        let place = places::hit_place(pattern, start, aim, cursor, k, &degrees, &sines, &cosines);
-        let machine = frame.machine;
-        let number = hits::hit(list, machine, place, state.tool, state.nibble, hits);
-        if 0 < number {
-            return Outcome::refused(number, line, progress);
-        }
-        current = place.point();
-        hits += 1;
-        k += 1;
-    }
-    let reached = Progress {
-        state: state.moved_to(current),
-        blocks: progress.blocks,
-        hits,
-    };
-    Outcome::passed(ending(pattern, start, reached))
 }
 
 // Carries a pattern out: its reach is judged, a waiting origin is used up, and the hits are made.
-pub fn carry_out(
+fn carry_out(
     list: &mut [i32],
     frame: Frame,
     line: u64,
     pattern: Pattern,
     progress: Progress,
 ) -> Outcome
-    ensures { λ r. ⌜ Carried r (now (list .entry)) (now (list .exit)) (progress .hits) (Patterns.pattern (lent (length (now (list .entry)))) frame line pattern progress) ⌝ }
+    ensures { λ r. ⌜ Carried r frame (lent (now (list .entry))) (lent (now (list .exit))) progress (λ j. Patterns.pattern j frame line pattern) ⌝ }
 {
     if !sizes::reaches(pattern) {
         return Outcome::refused(refusal::TOO_FAR, line, progress);
     }
     let state = progress.state;
     let start = state.start();
+    let with = Punch {
+        tool: state.tool,
+        nibble: state.nibble,
+    };
+    let made = series::punch_series(list, frame, with, start, progress.hits, pattern);
+    let end = made.current;
     let dropped = state.dropping();
-    let ready = progress.with_state(dropped.moved_to(start));
-    punch_hits(list, frame, line, pattern, start, ready)
+    Outcome {
+        status: status_at(made.number, line),
+        progress: Progress {
+            state: dropped.moved_to(end),
+            blocks: progress.blocks,
+            hits: made.hits,
+        },
+    }
 }
 
 // A pattern block: T chooses the tool and A stores the pattern, both before the hits.
@@ -103,7 +67,7 @@ pub fn run_pattern(
     memory: u8,
     progress: Progress,
 ) -> Outcome
-    ensures { λ r. ⌜ Carried r (now (list .entry)) (now (list .exit)) (progress .hits) (runPattern (lent (length (now (list .entry)))) frame line pattern tool memory progress) ⌝ }
+    ensures { λ r. ⌜ Carried r frame (lent (now (list .entry))) (lent (now (list .exit))) progress (λ j. runPattern j frame line pattern tool memory) ⌝ }
 {
     let state = progress.state;
     let chosen = state.choosing(tool);
@@ -113,7 +77,7 @@ pub fn run_pattern(
 
 // A B block: what memory n holds is carried out, or refused where that is nothing.
 pub fn recall(list: &mut [i32], frame: Frame, line: u64, n: u8, progress: Progress) -> Outcome
-    ensures { λ r. ⌜ Carried r (now (list .entry)) (now (list .exit)) (progress .hits) (recall (lent (length (now (list .entry)))) frame line n progress) ⌝ }
+    ensures { λ r. ⌜ Carried r frame (lent (now (list .entry))) (lent (now (list .exit))) progress (λ j. recall j frame line n) ⌝ }
 {
     let state = progress.state;
     let stored = state.memory(n);

@@ -1,24 +1,27 @@
 use aries::block::Pattern;
+use aries::block::Steps;
 use aries::point;
 ghost use mathlib.Core.Path.{_≡_};
+ghost use Prim.Native.Nat.{suc, _-_, _*_};
 ghost use lib.IntN.{pos, _*ℤ_};
 ghost use Rattle.aries.specs.Judging.{isNear};
-ghost use Rattle.aries.specs.Patterns.{holes, reaches};
+ghost use Rattle.aries.specs.Patterns.{reaches};
+ghost use Rattle.patterns.specs.Offsets.{laneEnd};
 
-// How many hits a pattern makes.
-pub fn holes(pattern: Pattern) -> u32
-    ensures { λ r. ⌜ r ≡ holes pattern ⌝ }
+// How many hits a grid makes: its places but the start.
+pub fn grid_holes(steps: Steps) -> u32
+    ensures { λ r. ⌜ r ≡ suc (steps .x) * suc (steps .y) - 1 ⌝ }
 {
-    match pattern {
-        Pattern::Line { count, .. } => count as u32,
-        Pattern::Arc { count, .. } => count as u32,
-        Pattern::Circle { count, .. } => count as u32,
-        Pattern::Grid { steps, .. } => {
-            let columns = steps.x as u64 + 1;
-            let rows = steps.y as u64 + 1;
-            (columns * rows - 1) as u32
-        }
-    }
+    let columns = steps.x as u64 + 1;
+    let rows = steps.y as u64 + 1;
+    (columns * rows - 1) as u32
+}
+
+// The last place of a grid's lane: of a row, or of a column in a vertical one.
+pub fn lane_end(vertical: bool, steps: Steps) -> u16
+    ensures { λ r. ⌜ r ≡ laneEnd vertical steps ⌝ }
+{
+    if vertical { steps.y } else { steps.x }
 }
 
 // Whether so many pitches stay within the largest coordinate.

@@ -1,4 +1,2 @@
 pub mod Located
-pub mod Move
-pub mod PatternOrigin
 pub mod Punch

@@ -1,11 +1,11 @@
--- Laws of a hit: what is judged of it, one law for each way out; `punch` by that; and what has been carried out with it.
+-- Laws of a hit: `punch` by what is judged of it, and what has been carried out with it.
 use mathlib.Core.Path.{_≡_, refl, sym, ap, _∙_}
 use mathlib.Core.Bool.{Bool, true, false}
 use mathlib.Core.Option.{some}
 use Prim.Native.Nat.{ℕ, _+_, _≤_, _<_}
 use native.Mathlib.Omega.{arith}
 use lib.Dec.{ltb}
-use borrow.Author.Tests.{lt-ltb, le-ltb, ltb-true}
+use borrow.Author.Tests.{ltb-true}
 use Rattle.aries.specs.declared.point.Point.{Point}
 use Rattle.aries.specs.declared.state.Frame.{Frame}
 use Rattle.aries.specs.declared.state.Progress.{Progress}
@@ -28,48 +28,30 @@ use Rattle.press.specs.Hits.{judgedHit, listAfter}
 abbrev chosen : Point → Bool → Bool → Bool → Bool → Judged
 chosen p t n c r = pick t (pick n (pick c (pick r (Made p) (Refused 17)) (Refused 16)) (Refused 15)) (Refused 14)
 
-module _ (f : Frame) (p : Point) (tool hits : ℕ) where
-  -- 14
-  pub hit-no-tool : tool ≡ 0 → Refused 14 ≡ judgedHit f p tool hits
-  unfolding judgedHit
-  hit-no-tool t = simp (le-ltb 0 tool (omega arith))
+-- a hit that is made has a place in the list
+pub hit-fits : (f : Frame) (p : Point) (tool hits : ℕ) (q : Point) → Made q ≡ judgedHit f p tool hits → hits < f .job .places
+unfolding judgedHit
+hit-fits f p tool hits q e =
+    ltb-true hits (f .job .places) (go (ltb 0 tool) (near p) (inRange f p) (ltb hits (f .job .places)) e)
+  where
+    go : (t n c r : Bool) → Made q ≡ chosen p t n c r → r ≡ true
+    go true true true true h = refl
+    go true true true false h = let z : _≡_ {A = ℕ} 0 1 = cc in absurd (omega arith)
+    go true true false r h = let z : _≡_ {A = ℕ} 0 1 = cc in absurd (omega arith)
+    go true false c r h = let z : _≡_ {A = ℕ} 0 1 = cc in absurd (omega arith)
+    go false n c r h = let z : _≡_ {A = ℕ} 0 1 = cc in absurd (omega arith)
 
-  -- 15 or 16, out of the range
-  pub hit-outside : 0 < tool → inRange f p ≡ false → Refused (pick (near p) 16 15) ≡ judgedHit f p tool hits
-  unfolding judgedHit
-  hit-outside t c = simp (lt-ltb 0 tool t, c) (go (near p))
-    where
-      go : (n : Bool) → Refused (pick n 16 15) ≡ pick n (Refused 16) (Refused 15)
-      go true = refl
-      go false = refl
-
-  -- 15
-  pub hit-too-far : 0 < tool → near p ≡ false → Refused 15 ≡ judgedHit f p tool hits
-  unfolding judgedHit
-  hit-too-far t n = simp (lt-ltb 0 tool t, n)
-
-  -- 17
-  pub hit-full : 0 < tool → near p ≡ true → inRange f p ≡ true → f .job .places ≤ hits → Refused 17 ≡ judgedHit f p tool hits
-  unfolding judgedHit
-  hit-full t n c r = simp (lt-ltb 0 tool t, n, c, le-ltb hits (f .job .places) r)
-
-  -- a hit
-  pub hit-passes : 0 < tool → near p ≡ true → inRange f p ≡ true → hits < f .job .places → Made p ≡ judgedHit f p tool hits
-  unfolding judgedHit
-  hit-passes t n c r = simp (lt-ltb 0 tool t, n, c, lt-ltb hits (f .job .places) r)
-
-  -- a hit that is made has a place in the list
-  pub hit-fits : (q : Point) → Made q ≡ judgedHit f p tool hits → hits < f .job .places
-  unfolding judgedHit
-  hit-fits q e =
-      ltb-true hits (f .job .places) (go (ltb 0 tool) (near p) (inRange f p) (ltb hits (f .job .places)) e)
-    where
-      go : (t n c r : Bool) → Made q ≡ chosen p t n c r → r ≡ true
-      go true true true true h = refl
-      go true true true false h = let z : _≡_ {A = ℕ} 0 1 = cc in absurd (omega arith)
-      go true true false r h = let z : _≡_ {A = ℕ} 0 1 = cc in absurd (omega arith)
-      go true false c r h = let z : _≡_ {A = ℕ} 0 1 = cc in absurd (omega arith)
-      go false n c r h = let z : _≡_ {A = ℕ} 0 1 = cc in absurd (omega arith)
+-- and any other has a refusal's number
+pub refusal-positive : (f : Frame) (p : Point) (tool hits number : ℕ) → Refused number ≡ judgedHit f p tool hits → 0 < number
+unfolding judgedHit
+refusal-positive f p tool hits number e = go (ltb 0 tool) (near p) (inRange f p) (ltb hits (f .job .places)) e
+  where
+    go : (t n c r : Bool) → Refused number ≡ chosen p t n c r → 0 < number
+    go true true true true h = let z : _≡_ {A = ℕ} 0 1 = cc in omega arith
+    go true true true false h = let z : number ≡ 17 = cc in omega arith
+    go true true false r h = let z : number ≡ 16 = cc in omega arith
+    go true false c r h = let z : number ≡ 15 = cc in omega arith
+    go false n c r h = let z : number ≡ 14 = cc in omega arith
 
 -- ---- `punch` by what is judged
 

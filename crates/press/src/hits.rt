@@ -76,6 +76,7 @@ pub fn hit(
 ) -> Judged
     ensures { λ r. ⌜ (r ≡ judgedHit frame (pointOf place) tool hits) × (lent (now (list .exit)) ≡ listAfter r (lent (now (list .entry))) hits tool nibble) ⌝ }
 {
+    let places = frame.job.places;
     if tool == 0 {
         return Judged::Refused(refusal::NO_TOOL);
     }
@@ -86,7 +87,7 @@ pub fn hit(
     match located {
         Located::TooFar => Judged::Refused(refusal::TOO_FAR),
         Located::At(point) => {
-            if frame.job.places <= hits {
+            if places <= hits {
                 return Judged::Refused(refusal::LIST_FULL);
             }
             put_hit(list, hits, point, tool, nibble);

@@ -92,6 +92,9 @@ pub fn set_pattern_origin(frame: Frame, line: u64, axes: Axes, progress: Progres
     let located = place.located();
     match located {
         Located::TooFar => Outcome::refused(refusal::TOO_FAR, line, progress),
-        Located::At(origin) => Outcome::passed(progress.with_state(state.waiting_at(origin))),
+        Located::At(origin) => {
+            let waiting = state.waiting_at(origin);
+            Outcome::passed(progress.with_state(waiting))
+        }
     }
 }

@@ -4,8 +4,7 @@ use mathlib.Core.Path.{_≡_, refl, sym, ap, _∙_, subst}
 use mathlib.Core.Bool.{Bool, true, false}
 use mathlib.Core.List.{List, [], _∷_}
 use mathlib.Core.Option.{Option, none, some}
-use Prim.Native.Nat.{ℕ, zero, suc, _+_, _-_, _≤_, _<_}
-use native.Mathlib.Nat.{not-suc-le-zero}
+use Prim.Native.Nat.{ℕ, zero, suc, _+_, _-_, _≤_}
 use native.Mathlib.Omega.{arith}
 use lib.Dec.{eqb}
 use lib.IntN.{ℤ}
@@ -23,16 +22,6 @@ use Rattle.words.proofs.Word.{Formed, formed}
 use Rattle.words.proofs.Line.{line-length, line-drop, line-word}
 
 -- ---- one word
-
-word-nil : word [] ≡ none
-unfolding word
-word-nil = refl
-
-gathered-out :
-    (w : Words) (at : ℕ) (bs : List ℕ)
-    → gathered zero w at bs ≡ record { words = w; end = at; formed = eqb (length bs) 0 }
-unfolding gathered
-gathered-out w at bs = refl
 
 gathered-none : (n : ℕ) (w : Words) (at : ℕ) (bs : List ℕ) → word bs ≡ none
     → gathered n w at bs ≡ record { words = w; end = at; formed = eqb (length bs) 0 }
@@ -57,10 +46,10 @@ ifFormed g = pick (g .formed) (some (g .words)) none
 
 -- they are those of the line where no bytes are left
 gathered-gather : (n : ℕ) (w : Words) (at : ℕ) (bs : List ℕ) → gather n w bs ≡ ifFormed (gathered n w at bs)
-unfolding gather
-gathered-gather zero w at [] = ap ifFormed (sym (gathered-out w at []))
-gathered-gather zero w at (b ∷ bs) = rw (gathered-out w at (b ∷ bs), some-left b bs)
-gathered-gather (suc n) w at [] = ap ifFormed (sym (gathered-none (suc n) w at [] word-nil))
+unfolding gather gathered word
+gathered-gather zero w at [] = refl
+gathered-gather zero w at (b ∷ bs) = rw (some-left b bs)
+gathered-gather (suc n) w at [] = refl
 gathered-gather (suc n) w at (b ∷ bs) =
     go (word (b ∷ bs)) refl
     (λ r. gathered-gather n (added w (r .letter) (r .word)) (at + r .size) (drop (r .size) (b ∷ bs)))
@@ -74,55 +63,71 @@ gathered-gather (suc n) w at (b ∷ bs) =
     go none e rest = rw (gathered-none (suc n) w at (b ∷ bs) e, some-left b bs) (rw (e, gather))
     go (some r) e rest = rw (gathered-some n w at (b ∷ bs) r e) (rw (e, gather) (rest r))
 
--- where no bytes are left they end where the line does
+-- what holds where no more are read, and with one word more, holds of them
 gathered-all :
-    (n : ℕ) (w : Words) (at : ℕ) (bs : List ℕ) → gathered n w at bs .formed ≡ true
-    → gathered n w at bs .end ≡ at + length bs
-gathered-all zero w at bs e =
-    let z : length bs ≡ 0 = eqb-true (length bs) 0 (rw (gathered-out w at bs) at e) in
-    rw (gathered-out w at bs) (omega arith)
-gathered-all (suc n) w at bs e =
-    go (word bs) refl (λ r. gathered-all n (added w (r .letter) (r .word)) (at + r .size) (drop (r .size) bs))
+    (P : Words → ℕ → List ℕ → Gathered → Type 0)
+    → ((w : Words) (at : ℕ) (bs : List ℕ) → P w at bs (record { words = w; end = at; formed = eqb (length bs) 0 }))
+    → ((w : Words) (at : ℕ) (bs : List ℕ) (r : Read) (g : Gathered) → word bs ≡ some r
+    → P (added w (r .letter) (r .word)) (at + r .size) (drop (r .size) bs) g
+    → P w at bs g)
+    → (n : ℕ) (w : Words) (at : ℕ) (bs : List ℕ)
+    → P w at bs (gathered n w at bs)
+unfolding gathered
+gathered-all P stop more zero w at bs = stop w at bs
+gathered-all P stop more (suc n) w at bs =
+    go (word bs) refl
+    (λ r. gathered-all P stop more n (added w (r .letter) (r .word)) (at + r .size) (drop (r .size) bs))
   where
+    next : Read → Gathered
+    next r = gathered n (added w (r .letter) (r .word)) (at + r .size) (drop (r .size) bs)
+
     go :
         (o : Option Read) → word bs ≡ o
-        → ((r : Read)
-        → gathered n (added w (r .letter) (r .word)) (at + r .size) (drop (r .size) bs) .formed ≡ true
-        → gathered n (added w (r .letter) (r .word)) (at + r .size) (drop (r .size) bs) .end
-        ≡ at + r .size + length (drop (r .size) bs))
-        → gathered (suc n) w at bs .end ≡ at + length bs
-    go none f rest =
-        let z : length bs ≡ 0 = eqb-true (length bs) 0 (rw (gathered-none (suc n) w at bs f) at e) in
-        rw (gathered-none (suc n) w at bs f) (omega arith)
-    go (some r) f rest =
-        let k : at + r .size + length (drop (r .size) bs) ≡ at + length bs =
-        omega (arith, formed bs r f .inside, length-drop (r .size) bs) in
-        rw (gathered-some n w at bs r f) (rest r (rw (gathered-some n w at bs r f) at e) ∙ k)
+        → ((r : Read) → P (added w (r .letter) (r .word)) (at + r .size) (drop (r .size) bs) (next r))
+        → P w at bs (gathered (suc n) w at bs)
+    go none e rest = rw (gathered-none (suc n) w at bs e) (stop w at bs)
+    go (some r) e rest = rw (gathered-some n w at bs r e) (more w at bs r (next r) e (rest r))
 
-not-some : {w : Words} → none ≡ some w → ⊥
-not-some e = let z : _≡_ {A = ℕ} 0 1 = cc in omega arith
+-- where no bytes are left they end where the line does
+gathered-end :
+    (n : ℕ) (w : Words) (at : ℕ) (bs : List ℕ) → gathered n w at bs .formed ≡ true
+    → gathered n w at bs .end ≡ at + length bs
+gathered-end =
+    gathered-all (λ w at bs g. g .formed ≡ true → g .end ≡ at + length bs)
+    (λ w at bs e. omega (arith, eqb-true (length bs) 0 e))
+    (λ w at bs r g f rest e. rest e ∙ omega (arith, formed bs r f .inside, length-drop (r .size) bs))
 
--- what one word more keeps holds of all words of a line
-pub gather-keeps :
-    (P : Words → Type 0)
-    → ((w : Words) (bs : List ℕ) (r : Read) → word bs ≡ some r → P w → P (added w (r .letter) (r .word)))
-    → (n : ℕ) (w v : Words) (bs : List ℕ) → P w → gather n w bs ≡ some v → P v
-unfolding gather
-gather-keeps P more zero w v [] p e = let q : w ≡ v = cc in subst P q p
-gather-keeps P more zero w v (b ∷ bs) p e = absurd (not-some e)
-gather-keeps P more (suc n) w v [] p e = let q : w ≡ v = cc in subst P q p
-gather-keeps P more (suc n) w v (b ∷ bs) p e =
-    go (word (b ∷ bs)) refl
-    (λ r. gather-keeps P more n (added w (r .letter) (r .word)) v (drop (r .size) (b ∷ bs)))
+words-gathered : (from : ℕ) (line : List ℕ) → words line ≡ ifFormed (gatheredFrom from line)
+unfolding words
+words-gathered from line = gathered-gather (length line) noWords from line
+
+-- all words of a line have their form: they are those that were gathered, and no bytes are left
+all-formed :
+    (from : ℕ) (line : List ℕ) (v : Words) → words line ≡ some v
+    → (gatheredFrom from line .formed ≡ true) × (gatheredFrom from line .words ≡ v)
+all-formed from line v e = go (gatheredFrom from line .formed) refl
   where
     go :
-        (o : Option Read) → word (b ∷ bs) ≡ o
-        → ((r : Read) → P (added w (r .letter) (r .word))
-        → gather n (added w (r .letter) (r .word)) (drop (r .size) (b ∷ bs)) ≡ some v
-        → P v)
-        → P v
-    go none f rest = absurd (not-some (rw (f, gather) at e))
-    go (some r) f rest = rest r (more w (b ∷ bs) r f p) (rw (f, gather) at e)
+        (f : Bool) → gatheredFrom from line .formed ≡ f
+        → (gatheredFrom from line .formed ≡ true) × (gatheredFrom from line .words ≡ v)
+    go true f =
+        let s : words line ≡ some (gatheredFrom from line .words) = words-gathered from line ∙ simp f in
+        (f, cc)
+    go false f =
+        let s : words line ≡ none = words-gathered from line ∙ simp f in
+        let z : _≡_ {A = ℕ} 0 1 = cc in
+        absurd (omega arith)
+
+-- what each word keeps holds of all words of a line
+pub words-keep :
+    (P : Words → Type 0)
+    → ((w : Words) (bs : List ℕ) (r : Read) → word bs ≡ some r → P w → P (added w (r .letter) (r .word)))
+    → P noWords → (line : List ℕ) (v : Words) → words line ≡ some v
+    → P v
+words-keep P more p line v e =
+    subst P (all-formed 0 line v e .1)
+    (gathered-all (λ w at bs g. P w → P (g .words)) (λ w at bs q. q)
+    (λ w at bs r g f rest q. rest (more w bs r f q)) (length line) noWords 0 line p)
 
 -- ---- the words of a line, read in a text
 
@@ -170,10 +175,6 @@ module _ (t : List ℕ) (from at : ℕ) (w : Words) (g : Goes t from at w) where
 
 -- ---- the code's answer
 
-words-gathered : (from : ℕ) (line : List ℕ) → words line ≡ ifFormed (gatheredFrom from line)
-unfolding words
-words-gathered from line = gathered-gather (length line) noWords from line
-
 module _ (line : List ℕ) (from : ℕ) (r : Tally) (forms : List ℕ) (numbers : List ℤ) where
   pub gathers :
       gatheredFrom from line ≡ record { words = wordsWith forms numbers r; end = r .end; formed = r .formed }
@@ -187,19 +188,16 @@ module _ (line : List ℕ) (from : ℕ) (r : Tally) (forms : List ℕ) (numbers 
 
   module _ (g : Gathers line from r forms numbers) where
     -- all words have their form: these are they
-    pub gathered-words : r .formed ≡ true → words line ≡ some (wordsWith forms numbers r)
-    gathered-words t = g .given ∙ rw t
+    pub gathers-words : r .formed ≡ true → words line ≡ some (wordsWith forms numbers r)
+    gathers-words t = g .given ∙ rw t
 
     -- they end where the line does
-    pub gathered-end : r .formed ≡ true → r .end ≡ from + length line
-    gathered-end t = g .end ∙ gathered-all (length line) noWords from line (go (gatheredFrom from line .formed) refl)
-      where
-        go : (f : Bool) → gatheredFrom from line .formed ≡ f → gatheredFrom from line .formed ≡ true
-        go true e = e
-        go false e =
-            let n : words line ≡ none = words-gathered from line ∙ rw e in
-            absurd (not-some (sym n ∙ gathered-words t))
+    pub gathers-end : r .formed ≡ true → r .end ≡ from + length line
+    gathers-end t =
+        g .end
+        ∙ gathered-end (length line) noWords from line
+        (all-formed from line (wordsWith forms numbers r) (gathers-words t) .0)
 
     -- one of them has not
-    pub gathered-malformed : r .formed ≡ false → words line ≡ none
-    gathered-malformed t = g .given ∙ rw t
+    pub gathers-none : r .formed ≡ false → words line ≡ none
+    gathers-none t = g .given ∙ rw t

@@ -9,7 +9,7 @@ use native.Mathlib.Omega.{arith}
 use lib.Dec.{ltb}
 use lib.IntN.{ℤ, pos}
 use lib.ListN.{length, getD, set, drop, replicate}
-use borrow.Author.Tests.{le-ltb, le-leb}
+use borrow.Author.Tests.{ltb-true, le-ltb, le-leb}
 use Rattle.aries.specs.declared.word.Word.{Word}
 use Rattle.aries.specs.Words.{noWord, isPlain}
 use Rattle.aries.specs.declared.word.Words.{Words}
@@ -37,10 +37,7 @@ form-word v e =
 
 -- its form is not 0
 pub form-positive : (signed pointed : Bool) → 0 < formOf signed pointed
-form-positive true true = omega arith
-form-positive true false = omega arith
-form-positive false true = omega arith
-form-positive false false = omega arith
+form-positive s p = ltb-true 0 (formOf s p) (ap (λ (v : Word). v .written) (by-marks s p (pos 0)))
 
 -- it has neither sign nor point where its form is below 2
 pub form-plain : (form : ℕ) (number : ℤ) → ltb form 2 ≡ isPlain (wordIn form number)

@@ -1,21 +1,21 @@
 -- Laws of `digits`: one step at a place of a line, and bounds of the count and the value.
 -- Assumes nothing.
-use mathlib.Core.Path.{_≡_, refl, ap, _∙_}
+use mathlib.Core.Path.{_≡_, refl, sym, ap, _∙_}
 use mathlib.Core.Bool.{Bool, true, false}
 use mathlib.Core.List.{List, [], _∷_}
 use Prim.Native.Nat.{ℕ, zero, suc, _+_, _-_, _*_, _^_, _≤_, _<_}
-use native.Mathlib.Nat.{pow-suc, pow-le-pow-right, lt-of-lt-of-le}
+use native.Mathlib.Nat.{add-zero, pow-suc, pow-le-pow-right, lt-of-lt-of-le}
 use native.Mathlib.Omega.{arith}
 use native.Mathlib.Numerals.{add-one}
-use lib.Dec.{eqb, ltb, lit≤, lit<}
-use lib.ListN.{length, drop, getD, drop-of-length-le, length-drop}
-use lib.Seq.{drop-cons}
-use borrow.Author.Tests.{ltb-true, ltb-false, eqb-true}
+use lib.Dec.{eqb, lit≤, lit<}
+use lib.ListN.{length, drop, getD}
+use lib.Seq.{drop-drop, getD-drop}
+use borrow.Author.Tests.{eqb-true}
 use Rattle.aries.specs.Text.{isDigit}
 use Rattle.aries.specs.Test.{pick}
-use Rattle.aries.specs.Words.{Digits, digits}
-use Rattle.words.specs.Reading.{Held, held}
-use Rattle.words.proofs.Bytes.{digit-high, digit-inside}
+use Rattle.aries.specs.Words.{Digits, digits, hundredths}
+use Rattle.words.specs.Reading.{Held, held, meant}
+use Rattle.words.proofs.Bytes.{digit-high}
 
 -- ---- one step
 
@@ -25,51 +25,39 @@ pub digits-full :
 unfolding digits
 digits-full n value count bs e = rw e
 
--- at a byte that is no digit
-pub digits-cons-stop :
-    (n value count b : ℕ) (bs : List ℕ) → isDigit b ≡ false
-    → digits n value count (b ∷ bs) ≡ record { value = value; count = count }
+-- where no digit stands
+pub digits-stop :
+    (n value count : ℕ) (bs : List ℕ) → isDigit (getD bs 0 0) ≡ false
+    → digits n value count bs ≡ record { value = value; count = count }
 unfolding digits
-digits-cons-stop zero value count b bs e = refl
-digits-cons-stop (suc n) value count b bs e = rw (e, digits)
+digits-stop zero value count bs e = refl
+digits-stop (suc n) value count [] e = refl
+digits-stop (suc n) value count (b ∷ bs) e = rw (e, digits)
 
 -- at a digit
-pub digits-cons-more :
-    (n value count b : ℕ) (bs : List ℕ) → isDigit b ≡ true
-    → digits (suc n) value count (b ∷ bs) ≡ digits n (value * 10 + (b - 48)) (suc count) bs
+pub digits-more :
+    (n value count : ℕ) (bs : List ℕ) → isDigit (getD bs 0 0) ≡ true
+    → digits (suc n) value count bs ≡ digits n (value * 10 + (getD bs 0 0 - 48)) (suc count) (drop 1 bs)
 unfolding digits
-digits-cons-more n value count b bs e = rw (e, digits)
+digits-more n value count [] e = cc
+digits-more n value count (b ∷ bs) e = rw (e, digits)
 
--- at the end
-digits-nil : (n value count : ℕ) → digits n value count [] ≡ record { value = value; count = count }
-unfolding digits
-digits-nil zero value count = refl
-digits-nil (suc n) value count = refl
+-- at a place where a byte was read
+module _ (t : List ℕ) (at b value count : ℕ) (e : b ≡ getD t at 0) where
+  there : getD (drop at t) 0 0 ≡ b
+  there = simp (getD-drop, add-zero) (sym e)
 
-module _ (bs : List ℕ) (value count i : ℕ) where
-  -- no digit at i
-  pub digits-stop :
-      (n : ℕ) → isDigit (getD bs i 0) ≡ false
-      → digits n value count (drop i bs) ≡ record { value = value; count = count }
-  digits-stop n e = go (ltb i (length bs)) refl
-    where
-      go :
-          (t : Bool) → ltb i (length bs) ≡ t
-          → digits n value count (drop i bs) ≡ record { value = value; count = count }
-      go true f =
-          rw (drop-cons bs i 0 (ltb-true i (length bs) f))
-          (digits-cons-stop n value count (getD bs i 0) (drop (suc i) bs) e)
-      go false f = rw (drop-of-length-le bs (ltb-false i (length bs) f)) (digits-nil n value count)
+  pub digits-stop-at :
+      (n : ℕ) → isDigit b ≡ false → digits n value count (drop at t) ≡ record { value = value; count = count }
+  digits-stop-at n d = digits-stop n value count (drop at t) (ap isDigit there ∙ d)
 
-  -- a digit at i
-  pub digits-more :
-      (most : ℕ) → isDigit (getD bs i 0) ≡ true → count < most
-      → digits (most - count) value count (drop i bs)
-      ≡ digits (most - (count + 1)) (value * 10 + (getD bs i 0 - 48)) (count + 1) (drop (i + 1) bs)
-  digits-more most e h =
+  pub digits-more-at :
+      (most : ℕ) → isDigit b ≡ true → count < most
+      → digits (most - count) value count (drop at t)
+      ≡ digits (most - (count + 1)) (value * 10 + (b - 48)) (count + 1) (drop (at + 1) t)
+  digits-more-at most d h =
       let n : most - count ≡ suc (most - (count + 1)) = omega arith in
-      rw (n, drop-cons bs i 0 (digit-inside bs i e), add-one count, add-one i)
-      (digits-cons-more (most - suc count) value count (getD bs i 0) (drop (suc i) bs) e)
+      rw (n, digits-more (most - (count + 1)) value count (drop at t) (ap isDigit there ∙ d), there, drop-drop, add-one)
 
 -- ---- bounds
 
@@ -107,34 +95,24 @@ digits-bounded (suc most) value count (b ∷ bs) h =
         let v : value * 10 + (b - 48) < 10 ^ (count + 1) =
         one-more value (b - 48) count h (omega (arith, digit-high b e)) in
         let r = rest (rw add-one at v) in
-        rw (digits-cons-more most value count b bs e)
+        rw (digits-more most value count (b ∷ bs) e)
         (record { few = omega arith; inside = omega arith; small = r .small })
     go false e rest =
-        rw (digits-cons-stop (suc most) value count b bs e)
+        rw (digits-stop (suc most) value count (b ∷ bs) e)
         (record { few = omega arith; inside = omega arith; small = h })
 
--- what holds of the digits that the code read at a place
-pub record Few (most from : ℕ) (bytes : List ℕ) (d : Held) : Type 0 where
-  pub few : d .count ≤ most
-  pub inside : from + d .count ≤ length bytes
-  pub small : d .value < 10 ^ d .count
-
-pub held-few :
-    (most from : ℕ) (bytes : List ℕ) (d : Held) → from ≤ length bytes → d ≡ held (digits most 0 0 (drop from bytes))
-    → Few most from bytes d
-held-few most from bytes d h e =
-    let b = digits-bounded most 0 0 (drop from bytes) (lit< tt) in
-    let l : length (drop from bytes) ≡ length bytes - from = length-drop from bytes in
-    rw e (record { few = omega arith; inside = omega arith; small = b .small })
+-- the same of digits that the code read
+pub held-bounded : (most : ℕ) (bs : List ℕ) (d : Held) → d ≡ held (digits most 0 0 bs) → Bounded most 0 bs (meant d)
+held-bounded most bs d e = rw e (digits-bounded most 0 0 bs (lit< tt))
 
 -- hundredths of a number with a point stay below 10^6
 pub hundredths-small :
-    (whole : ℕ) (decimals : Held) → whole < 10000 → decimals .value < 10 ^ decimals .count → decimals .count ≤ 2
-    → whole * 100 + decimals .value * pick (eqb (decimals .count) 1) 10 1 < 1000000
+    (whole decimals : Digits) → whole .value < 10000 → decimals .value < 10 ^ decimals .count → decimals .count ≤ 2
+    → hundredths whole decimals < 1000000
 hundredths-small whole decimals h s k = go (eqb (decimals .count) 1) refl
   where
     go :
-        (t : Bool) → eqb (decimals .count) 1 ≡ t → whole * 100 + decimals .value * pick t 10 1 < 1000000
+        (t : Bool) → eqb (decimals .count) 1 ≡ t → whole .value * 100 + decimals .value * pick t 10 1 < 1000000
     go true e =
         let one : decimals .count ≡ 1 = eqb-true (decimals .count) 1 e in
         let d : decimals .value < 10 ^ 1 = below-power (decimals .value) (decimals .count) 1 s (omega arith) in

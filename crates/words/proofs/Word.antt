@@ -1,146 +1,130 @@
--- Laws of `word`: the word at a place of a line, by the bytes and digits that stand there.
+-- Laws of `number` and `word`: a word by its letter, the byte where its sign is due and its number; what holds of both;
+-- and what the code answers of them.
 -- Assumes nothing.
-use mathlib.Core.Path.{_≡_, refl, sym, ap, _∙_, ap₂, subst}
+use mathlib.Core.Path.{_≡_, refl, ap, _∙_, subst}
 use mathlib.Core.Bool.{Bool, true, false}
 use mathlib.Core.List.{List}
 use mathlib.Core.Option.{Option, none, some}
-use Prim.Native.Nat.{ℕ, _+_, _-_, _*_, _^_, _≤_, _<_}
+use Prim.Native.Nat.{ℕ, _+_, _-_, _≤_, _<_}
 use native.Mathlib.Nat.{add-zero, add-assoc}
 use native.Mathlib.Omega.{arith}
 use lib.Dec.{eqb, leb, lit<}
 use lib.IntN.{natAbs}
 use lib.ListN.{length, getD, drop, length-drop}
 use lib.Seq.{getD-drop, drop-drop}
-use borrow.Author.Tests.{ne-eqb, le-leb, lt-leb, leb-true, eqb-true}
-use Rattle.aries.specs.Test.{both, pick}
+use borrow.Author.Tests.{le-leb, leb-true}
+use Rattle.aries.specs.Test.{both, within, pick}
 use Rattle.aries.specs.Text.{isCapital}
-use Rattle.aries.specs.Words.{Digits, Read, digits, isSign, minus, point, hundredths, wordOf, word}
+use Rattle.aries.specs.Words.{Digits, Read, digits, isSign, minus, point, frontSize, wordOf, word}
 use Rattle.signed.proofs.Integers.{abs-withSign}
 use Rattle.signed.proofs.Tests.{both-left, both-right}
-use Rattle.words.proofs.Tests.{both-false}
-use Rattle.words.proofs.Bytes.{byte-inside, capital-inside, front-inside, from-inside}
-use Rattle.words.proofs.Numerals.{Bounded, digits-bounded, Few, held-few, below-power, hundredths-small}
-use Rattle.words.proofs.Keeping.{form-word, form-positive}
+use Rattle.words.specs.declared.Number.{Number}
 use Rattle.words.specs.declared.Reading.{Reading}
 use Rattle.words.specs.Keeping.{wordIn}
-use Rattle.words.specs.Reading.{Held, held, meant, readingAt, readingOf}
+use Rattle.words.specs.Reading.{numberOf, number, noReading, readingOf, readingAt}
+use Rattle.words.proofs.Tests.{both-false, pick-same}
+use Rattle.words.proofs.Bytes.{test-inside, front-inside}
+use Rattle.words.proofs.Keeping.{form-word, form-positive}
+use Rattle.words.proofs.Numerals.{Bounded, digits-bounded, below-power, hundredths-small}
 
--- a word from its parts: the letter, the byte where a sign is due, how many bytes these take, the digits, the byte
--- after them, and the digits after that
-abbrev pub parsed : ℕ → ℕ → ℕ → Digits → ℕ → Digits → Option Read
-parsed letter sign front whole stop decimals =
-    pick (both (isCapital letter) (leb 1 (whole .count)))
-    (pick (eqb stop point)
-    (pick (leb (whole .count) 4)
+-- ---- a number
+
+-- at a place, by its parts
+pub number-at :
+    (t : List ℕ) (from : ℕ) (whole : Digits) → whole ≡ digits 6 0 0 (drop from t)
+    → number (drop from t)
+    ≡ numberOf whole (getD t (from + whole .count) 0) (digits 2 0 0 (drop (from + whole .count + 1) t))
+unfolding number
+number-at t from whole e = simp (getD-drop, drop-drop, ← e, ← add-assoc)
+
+module _ (bs : List ℕ) where
+  abbrev whole : Digits
+  whole = digits 6 0 0 bs
+
+  abbrev stop : ℕ
+  stop = getD bs (whole .count) 0
+
+  abbrev decimals : Digits
+  decimals = digits 2 0 0 (drop (whole .count + 1) bs)
+
+  -- it lies within the bytes, and its value is below 10^6
+  pub number-small : (number bs .size ≤ length bs) × (number bs .value < 1000000)
+  unfolding number
+  number-small = go (eqb stop point) (within 1 4 (whole .count)) refl refl
+    where
+      w : Bounded 6 0 bs whole
+      w = digits-bounded 6 0 0 bs (lit< tt)
+
+      d : Bounded 2 0 (drop (whole .count + 1) bs) decimals
+      d = digits-bounded 2 0 0 (drop (whole .count + 1) bs) (lit< tt)
+
+      go :
+          (s t : Bool) → eqb stop point ≡ s → within 1 4 (whole .count) ≡ t
+          → (number bs .size ≤ length bs) × (number bs .value < 1000000)
+      go false t e f =
+          simp e
+          (omega (arith, w .inside), below-power (whole .value) (whole .count) 6 (w .small) (omega (arith, w .few)))
+      go true false e f = simp (e, f) (omega arith, lit< tt)
+      go true true e f =
+          let h : whole .count < length bs = test-inside (λ (b : ℕ). eqb b point) bs (whole .count) refl e in
+          let k : whole .count ≤ 4 =
+          leb-true (whole .count) 4 (both-right (leb 1 (whole .count)) (leb (whole .count) 4) f) in
+          simp (e, f) (
+            omega (arith, d .inside, length-drop (whole .count + 1) bs),
+            hundredths-small whole decimals (below-power (whole .value) (whole .count) 4 (w .small) k) (d .small)
+                (omega (arith, d .few)),
+          )
+
+-- a number at a place of a text
+pub number-fits :
+    (t : List ℕ) (from : ℕ) (n : Number) → from ≤ length t → n ≡ number (drop from t)
+    → (from + n .size ≤ length t) × (n .value < 1000000)
+number-fits t from n h e =
+    let s = number-small (drop from t) in
+    rw e (omega (arith, s .0, length-drop from t), s .1)
+
+-- ---- a word by its number
+
+-- from its letter, the byte where its sign is due, how many bytes these take, and its number
+abbrev pub readOf : ℕ → ℕ → ℕ → Number → Option Read
+readOf letter sign front n =
+    pick (both (isCapital letter) (leb 1 (n .size)))
     (some (record {
       letter = letter;
-      word = wordOf (isSign sign) (eqb sign minus) true (hundredths whole decimals);
-      size = front + whole .count + 1 + decimals .count;
+      word = wordOf (isSign sign) (eqb sign minus) (n .pointed) (n .value);
+      size = front + n .size;
     }))
-    none)
-    (some (record {
-      letter = letter;
-      word = wordOf (isSign sign) (eqb sign minus) false (whole .value);
-      size = front + whole .count;
-    })))
     none
 
--- the word at a place, by its parts
-word-parsed :
-    (bytes : List ℕ) (at front : ℕ) (whole : Digits) → front ≡ pick (isSign (getD bytes (at + 1) 0)) 2 1
-    → whole ≡ digits 6 0 0 (drop (at + front) bytes)
-    → word (drop at bytes)
-    ≡ parsed (getD bytes at 0) (getD bytes (at + 1) 0) front whole (getD bytes (at + front + whole .count) 0)
-    (digits 2 0 0 (drop (at + front + whole .count + 1) bytes))
-unfolding word
-word-parsed bytes at front whole f w = simp (getD-drop, drop-drop, ← f, ← w, ← add-assoc, add-zero)
+module _ (bs : List ℕ) where
+  abbrev first : Digits
+  first = digits 6 0 0 (drop (frontSize bs) bs)
 
--- ---- reading a word, step by step
+  -- the byte behind its first digits, and the digits behind that
+  abbrev behind : ℕ
+  behind = getD bs (frontSize bs + first .count) 0
 
--- what the code has of the word at a place once the digits before a point are read
-pub record Parts (bytes : List ℕ) (at : ℕ) : Type 0 where
-  pub letter : ℕ
-  pub sign : ℕ
-  pub front : ℕ
-  pub whole : Held
-  pub letter-is : letter ≡ getD bytes at 0
-  pub sign-is : sign ≡ getD bytes (at + 1) 0
-  pub front-is : front ≡ pick (isSign sign) 2 1
-  pub whole-is : whole ≡ held (digits 6 0 0 (drop (at + front) bytes))
+  abbrev second : Digits
+  second = digits 2 0 0 (drop (frontSize bs + first .count + 1) bs)
 
-module _ (bytes : List ℕ) (at : ℕ) (p : Parts bytes at) where
-  -- the place past these digits
-  abbrev pub end : ℕ
-  end = at + p .front + p .whole .count
+  pub word-number : word bs ≡ readOf (getD bs 0 0) (getD bs 1 0) (frontSize bs) (number (drop (frontSize bs) bs))
+  unfolding word
+  word-number =
+      rw (number-at bs (frontSize bs) first refl)
+      (go (eqb behind point) (leb 1 (first .count)) (leb (first .count) 4) refl refl refl)
+    where
+      go :
+          (q p r : Bool) → eqb behind point ≡ q → leb 1 (first .count) ≡ p → leb (first .count) 4 ≡ r
+          → word bs ≡ readOf (getD bs 0 0) (getD bs 1 0) (frontSize bs) (numberOf first behind second)
+      go false p r g e h = simp g
+      go true false r g e h = simp (e, g, both-false)
+      go true true false g e h =
+          simp (e, g, h, both-false) (pick-same (both (isCapital (getD bs 0 0)) true) none)
+      go true true true g e h =
+          let k = le-leb 1 (first .count + 1 + second .count) (omega arith) in
+          simp (e, g, h, k) (simp add-assoc)
 
-  word-at :
-      word (drop at bytes)
-      ≡ parsed (p .letter) (p .sign) (p .front) (meant (p .whole)) (getD bytes end 0)
-      (digits 2 0 0 (drop (end + 1) bytes))
-  word-at =
-      word-parsed bytes at (p .front) (meant (p .whole))
-      (p .front-is ∙ ap (λ (b : ℕ). pick (isSign b) 2 1) (p .sign-is))
-      (ap meant (p .whole-is))
-      ∙ ap₂ (λ (a b : ℕ). parsed a b (p .front) (meant (p .whole)) (getD bytes end 0)
-      (digits 2 0 0 (drop (end + 1) bytes))) (sym (p .letter-is)) (sym (p .sign-is))
-
-  -- no digits, no word
-  pub no-digits : p .whole .count ≡ 0 → readingAt at (word (drop at bytes)) ≡ readingAt at none
-  no-digits e = rw (word-at) (simp (lt-leb 1 (p .whole .count) (omega arith), both-false))
-
-  module _ (c : isCapital (p .letter) ≡ true) where
-    -- the digits lie within the line
-    pub whole-few : Few 6 (at + p .front) bytes (p .whole)
-    whole-few =
-        held-few 6 (at + p .front) bytes (p .whole)
-        (from-inside bytes at (p .letter) (p .sign) (p .front) (p .letter-is) (p .sign-is) (p .front-is) c)
-        (p .whole-is)
-
-    module _ (d : 0 < p .whole .count) where
-      -- no point follows the digits
-      pub no-point :
-          (getD bytes end 0 ≡ point → ⊥)
-          → readingAt at (word (drop at bytes))
-          ≡ readingOf (p .letter) (p .sign) false (p .whole .value) end
-      no-point n =
-          rw (word-at) (simp (c, le-leb 1 (p .whole .count) d, ne-eqb (getD bytes end 0) point n) (simp add-assoc))
-
-      module _ (q : getD bytes end 0 ≡ point) where
-        -- a point follows too many digits
-        pub too-long : 4 < p .whole .count → readingAt at (word (drop at bytes)) ≡ readingAt at none
-        too-long h = rw (word-at) (simp (c, le-leb 1 (p .whole .count) d, q, lt-leb (p .whole .count) 4 h))
-
-        -- a point follows, and then the decimals
-        pub with-point :
-            (decimals : Held) → p .whole .count ≤ 4 → decimals ≡ held (digits 2 0 0 (drop (end + 1) bytes))
-            → readingAt at (word (drop at bytes))
-            ≡ readingOf (p .letter) (p .sign) true
-            (p .whole .value * 100 + decimals .value * pick (eqb (decimals .count) 1) 10 1)
-            (end + 1 + decimals .count)
-        with-point decimals h e =
-            rw (word-at) (simp (c, le-leb 1 (p .whole .count) d, q, le-leb (p .whole .count) 4 h, e) (simp add-assoc))
-
-  -- a point lies within the line
-  pub point-inside : getD bytes end 0 ≡ point → end < length bytes
-  point-inside q = byte-inside bytes end (rw q (lit< tt))
-
-  -- and so do the decimals
-  pub decimals-few :
-      (decimals : Held) → getD bytes end 0 ≡ point → decimals ≡ held (digits 2 0 0 (drop (end + 1) bytes))
-      → Few 2 (end + 1) bytes decimals
-  decimals-few decimals q e = held-few 2 (end + 1) bytes decimals (omega (arith, point-inside q)) e
-
--- no capital, no word
-pub no-capital :
-    (bytes : List ℕ) (at letter : ℕ) → letter ≡ getD bytes at 0 → isCapital letter ≡ false
-    → readingAt at (word (drop at bytes)) ≡ readingAt at none
-no-capital bytes at letter l e =
-    let front : ℕ = pick (isSign (getD bytes (at + 1) 0)) 2 1 in
-    rw (word-parsed bytes at front (digits 6 0 0 (drop (at + front) bytes)) refl refl, ← l) (simp e)
-
--- ---- what holds of a word that was read from a line
-
--- its letter, its size and its value
+-- what holds of a word that was read from a line: its letter, its size and its value
 pub record Formed (bs : List ℕ) (r : Read) : Type 0 where
   pub capital : isCapital (r .letter) ≡ true
   -- it takes a byte at least, and none past the end
@@ -149,117 +133,66 @@ pub record Formed (bs : List ℕ) (r : Read) : Type 0 where
   pub small : natAbs (r .word .value) ≤ 999999
   pub written : r .word .written ≡ true
 
-module _ (bs : List ℕ) where
-  -- the parts of the word at the front
-  abbrev pub front : ℕ
-  front = pick (isSign (getD bs 1 0)) 2 1
+module _ (bs : List ℕ) (r : Read) (e : word bs ≡ some r) where
+  abbrev n : Number
+  n = number (drop (frontSize bs) bs)
 
-  abbrev pub whole : Digits
-  whole = digits 6 0 0 (drop front bs)
-
-  abbrev pub stop : ℕ
-  stop = getD bs (front + whole .count) 0
-
-  abbrev pub decimals : Digits
-  decimals = digits 2 0 0 (drop (front + whole .count + 1) bs)
-
-  abbrev wholeRead : Read
-  wholeRead =
+  abbrev found : Read
+  found =
       record {
         letter = getD bs 0 0;
-        word = wordOf (isSign (getD bs 1 0)) (eqb (getD bs 1 0) minus) false (whole .value);
-        size = front + whole .count;
+        word = wordOf (isSign (getD bs 1 0)) (eqb (getD bs 1 0) minus) (n .pointed) (n .value);
+        size = frontSize bs + n .size;
       }
 
-  abbrev pointRead : Read
-  pointRead =
-      record {
-        letter = getD bs 0 0;
-        word = wordOf (isSign (getD bs 1 0)) (eqb (getD bs 1 0) minus) true (hundredths whole decimals);
-        size = front + whole .count + 1 + decimals .count;
-      }
-
-  pub word-is : word bs ≡ parsed (getD bs 0 0) (getD bs 1 0) front whole stop decimals
-  unfolding word
-  word-is = refl
-
-  module _ (c : isCapital (getD bs 0 0) ≡ true) where
-    pub front-fits : front ≤ length bs
-    front-fits = omega (arith, front-inside bs 0 front (capital-inside bs 0 c) refl)
-
-    whole-bounded : Bounded 6 0 (drop front bs) whole
-    whole-bounded = digits-bounded 6 0 0 (drop front bs) (lit< tt)
-
-    pub whole-fits : front + whole .count ≤ length bs
-    whole-fits = omega (arith, front-fits, whole-bounded .inside, length-drop front bs)
-
-    whole-formed : 1 ≤ whole .count → Formed bs wholeRead
-    whole-formed d =
-        let v : whole .value < 10 ^ 6 =
-        below-power (whole .value) (whole .count) 6 (whole-bounded .small) (omega (arith, whole-bounded .few)) in
-        record {
-          capital = c;
-          some-bytes = omega arith;
-          inside = whole-fits;
-          small = rw (abs-withSign (eqb (getD bs 1 0) minus) (whole .value)) (omega arith);
-          written = refl;
-        }
-
-    module _ (p : stop ≡ point) (few : whole .count ≤ 4) where
-      decimals-bounded : Bounded 2 0 (drop (front + whole .count + 1) bs) decimals
-      decimals-bounded = digits-bounded 2 0 0 (drop (front + whole .count + 1) bs) (lit< tt)
-
-      decimals-fit : front + whole .count + 1 + decimals .count ≤ length bs
-      decimals-fit =
-          let h : front + whole .count < length bs = byte-inside bs (front + whole .count) (rw p (lit< tt)) in
-          omega (arith, decimals-bounded .inside, length-drop (front + whole .count + 1) bs)
-
-      point-formed : Formed bs pointRead
-      point-formed =
-          let v : hundredths whole decimals < 1000000 =
-          hundredths-small (whole .value) (held decimals)
-          (below-power (whole .value) (whole .count) 4 (whole-bounded .small) few)
-          (decimals-bounded .small)
-          (omega (arith, decimals-bounded .few)) in
-          record {
+  pub formed : Formed bs r
+  formed = go (both (isCapital (getD bs 0 0)) (leb 1 (n .size))) refl
+    where
+      go : (t : Bool) → both (isCapital (getD bs 0 0)) (leb 1 (n .size)) ≡ t → Formed bs r
+      go false g =
+          let z : word bs ≡ none = word-number bs ∙ simp g in
+          let o : _≡_ {A = ℕ} 0 1 = cc in
+          absurd (omega arith)
+      go true g =
+          let c : isCapital (getD bs 0 0) ≡ true = both-left (isCapital (getD bs 0 0)) (leb 1 (n .size)) g in
+          let b : 1 ≤ n .size = leb-true 1 (n .size) (both-right (isCapital (getD bs 0 0)) (leb 1 (n .size)) g) in
+          let s = number-small (drop (frontSize bs) bs) in
+          let z : word bs ≡ some found = word-number bs ∙ simp g in
+          let q : found ≡ r = cc in
+          subst (Formed bs) q
+          (record {
             capital = c;
             some-bytes = omega arith;
-            inside = decimals-fit;
-            small = rw (abs-withSign (eqb (getD bs 1 0) minus) (hundredths whole decimals)) (omega arith);
+            inside = omega (arith, s .0, front-inside bs 0 (frontSize bs) c refl, length-drop (frontSize bs) bs);
+            small = rw (abs-withSign (eqb (getD bs 1 0) minus) (n .value)) (omega (arith, s .1));
             written = refl;
-          }
+          })
 
-  letter-is : both (isCapital (getD bs 0 0)) (leb 1 (whole .count)) ≡ true → isCapital (getD bs 0 0) ≡ true
-  letter-is f = both-left (isCapital (getD bs 0 0)) (leb 1 (whole .count)) f
+-- ---- the code's answer
 
-  digits-are : both (isCapital (getD bs 0 0)) (leb 1 (whole .count)) ≡ true → 1 ≤ whole .count
-  digits-are f = leb-true 1 (whole .count) (both-right (isCapital (getD bs 0 0)) (leb 1 (whole .count)) f)
+module _ (t : List ℕ) (at : ℕ) where
+  word-at :
+      (front : ℕ) → front ≡ pick (isSign (getD t (at + 1) 0)) 2 1
+      → word (drop at t) ≡ readOf (getD t at 0) (getD t (at + 1) 0) front (number (drop (at + front) t))
+  word-at front f = word-number (drop at t) ∙ simp (getD-drop, drop-drop, ← f, add-zero)
 
-  -- a word that was read has all that
-  pub formed : (r : Read) → word bs ≡ some r → Formed bs r
-  formed r e =
-      go (both (isCapital (getD bs 0 0)) (leb 1 (whole .count))) (eqb stop point) (leb (whole .count) 4) refl refl refl
+  -- no letter, no word
+  pub reading-none : isCapital (getD t at 0) ≡ false → noReading ≡ readingAt at (word (drop at t))
+  reading-none e = rw (word-at (pick (isSign (getD t (at + 1) 0)) 2 1) refl) (simp e)
+
+  -- a letter, and then a number or none
+  pub reading-some :
+      (letter sign front : ℕ) (n : Number) → letter ≡ getD t at 0 → sign ≡ getD t (at + 1) 0
+      → n ≡ number (drop (at + front) t) → isCapital (getD t at 0) ≡ true
+      → front ≡ pick (isSign (getD t (at + 1) 0)) 2 1
+      → readingOf letter sign (at + front) n ≡ readingAt at (word (drop at t))
+  reading-some letter sign front n l s m c f = rw (word-at front f, ← l, ← s, ← m) (go (leb 1 (n .size)) refl)
     where
       go :
-          (s t u : Bool) → both (isCapital (getD bs 0 0)) (leb 1 (whole .count)) ≡ s → eqb stop point ≡ t
-          → leb (whole .count) 4 ≡ u → Formed bs r
-      go false t u f g h =
-          let n : word bs ≡ none = word-is ∙ simp f in
-          let z : _≡_ {A = ℕ} 0 1 = cc in
-          absurd (omega arith)
-      go true false u f g h =
-          let n : word bs ≡ some wholeRead = word-is ∙ simp (f, g) in
-          let q : wholeRead ≡ r = cc in
-          subst (Formed bs) q (whole-formed (letter-is f) (digits-are f))
-      go true true false f g h =
-          let n : word bs ≡ none = word-is ∙ simp (f, g, h) in
-          let z : _≡_ {A = ℕ} 0 1 = cc in
-          absurd (omega arith)
-      go true true true f g h =
-          let n : word bs ≡ some pointRead = word-is ∙ simp (f, g, h) in
-          let q : pointRead ≡ r = cc in
-          subst (Formed bs) q
-          (point-formed (letter-is f) (eqb-true stop point g) (leb-true (whole .count) 4 h))
+          (b : Bool) → leb 1 (n .size) ≡ b
+          → readingOf letter sign (at + front) n ≡ readingAt at (readOf letter sign front n)
+      go true e = simp (ap isCapital l ∙ c, e, add-assoc)
+      go false e = simp (ap isCapital l ∙ c, e)
 
 -- ---- what an answer says of the word
 

@@ -1,6 +1,6 @@
 -- What reading the words of a line answers.
 use mathlib.Core.Path.{_≡_}
-use mathlib.Core.Bool.{Bool, true, false}
+use mathlib.Core.Bool.{Bool}
 use mathlib.Core.List.{List}
 use mathlib.Core.Option.{none, some}
 use Prim.Native.Nat.{ℕ, zero, suc, _+_}
@@ -37,7 +37,7 @@ abbrev pub gatheredFrom : ℕ → List ℕ → Gathered
 gatheredFrom from line = gathered (length line) noWords from line
 
 -- Whether all words of a line have the form, and then the words. Whatever the line, what is left are the words before
--- the first that has not its form, and the place past them.
+-- the first that has not its form, and the place past them; of the two lists, the words that they stand for.
 pub record Gathers (line : List ℕ) (from : ℕ) (answer : Tally) (forms : List ℕ) (numbers : List ℤ) : Type 0 where
   pub given : words line ≡ pick (answer .formed) (some (wordsWith forms numbers answer)) none
   pub left : wordsWith forms numbers answer ≡ gatheredFrom from line .words

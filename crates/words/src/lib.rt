@@ -1,6 +1,5 @@
 // The words of a block: digits, a word, and all words of a line by their letters.
 ghost use mathlib.Core.List.{List, [], _∷_};
-ghost use mathlib.Core.Option.{none};
 ghost use mathlib.Core.Path.{_≡_};
 ghost use Prim.Native.Nat.{_+_, _*_, _^_, _≤_, _<_};
 ghost use lib.Dec.{eqb};
@@ -16,7 +15,7 @@ ghost use Rattle.aries.specs.Words.{noWord, withNumber, added};
 ghost use Rattle.text.specs.Lines.{lineLength};
 ghost use Rattle.words.specs.Gathering.{firstLine, Gathers};
 ghost use Rattle.words.specs.Keeping.{wordIn, formOf, wordsFrom, retold, Tells};
-ghost use Rattle.words.specs.Reading.{held, readingOf, readingAt};
+ghost use Rattle.words.specs.Reading.{held, noNumber, number, noReading, readingOf, readingAt};
 use aries::word::Word;
 use signed::size;
 use signed::with_sign;
@@ -29,8 +28,15 @@ struct Digits {
     count: usize,
 }
 
-// What stands at a place where a word is due: a word with its letter, its form, its number and the place past it. Where
-// it has not the form of a word, its form is 0.
+// A number that was read: its value, in hundredths where it has a point, and how many bytes it takes, 0 where there is
+// none.
+struct Number {
+    value: u32,
+    pointed: bool,
+    size: usize,
+}
+
+// A word that was read: its letter, its form, 0 where there is none, its number and the place past it.
 struct Reading {
     letter: u8,
     form: u8,
@@ -60,7 +66,7 @@ fn is_line_end(text: &[u8], at: usize) -> bool
 fn is_within(low: u8, high: u8, b: u8) -> bool
     ensures { λ r. ⌜ r ≡ within low high b ⌝ }
 {
-    if low <= b { b <= high } else { false }
+    (low <= b) & (b <= high)
 }
 
 // One of 0 to 9.
@@ -81,7 +87,7 @@ fn is_capital(b: u8) -> bool
 fn is_sign(b: u8) -> bool
     ensures { λ r. ⌜ r ≡ isSign b ⌝ }
 {
-    if b == b'+' { true } else { b == b'-' }
+    (b == b'+') | (b == b'-')
 }
 
 // The digits at a place, at most so many.
@@ -102,13 +108,6 @@ fn read_digits(text: &[u8], from: usize, most: usize) -> Digits
     Digits { value, count }
 }
 
-// How many bytes stand before the digits: the letter, and the sign if the byte after it is one.
-fn front_size(sign: u8) -> usize
-    ensures { λ r. ⌜ r ≡ pick (isSign sign) 2 1 ⌝ }
-{
-    if is_sign(sign) { 2 } else { 1 }
-}
-
 // Hundredths of a number with a point: its digits before the point, and one or two after it, or none.
 fn hundredths_of(whole: u32, decimals: Digits) -> u32
     requires { ⌜ (whole < 10000) × (decimals .value < 100) ⌝ }
@@ -118,6 +117,42 @@ fn hundredths_of(whole: u32, decimals: Digits) -> u32
         whole * 100 + decimals.value * 10
     } else {
         whole * 100 + decimals.value
+    }
+}
+
+// No number.
+fn no_number() -> Number
+    ensures { λ r. ⌜ r ≡ noNumber ⌝ }
+{
+    Number {
+        value: 0,
+        pointed: false,
+        size: 0,
+    }
+}
+
+// The number at a place.
+fn read_number(text: &[u8], from: usize) -> Number
+    ensures { λ r. ⌜ r ≡ number (drop from (now (text .entry))) ⌝ }
+{
+    let whole = read_digits(text, from, 6);
+    let end = from + whole.count;
+    if byte_at(text, end) != b'.' {
+        return Number {
+            value: whole.value,
+            pointed: false,
+            size: whole.count,
+        };
+    }
+    if !((1 <= whole.count) & (whole.count <= 4)) {
+        return no_number();
+    }
+    let decimals = read_digits(text, end + 1, 2);
+    let value = hundredths_of(whole.value, decimals);
+    Number {
+        value,
+        pointed: true,
+        size: whole.count + 1 + decimals.count,
     }
 }
 
@@ -132,31 +167,41 @@ fn form_of(signed: bool, pointed: bool) -> u8
     }
 }
 
-// A word from its letter, the byte where its sign is due, its number and the place past it.
-fn make_reading(letter: u8, sign: u8, pointed: bool, number: u32, end: usize) -> Reading
-    requires { ⌜ number < 1000000 ⌝ }
-    ensures { λ r. ⌜ r ≡ readingOf letter sign pointed number end ⌝ }
-{
-    let form = form_of(is_sign(sign), pointed);
-    let number = with_sign(sign == b'-', number);
-    Reading {
-        letter,
-        form,
-        number,
-        end,
-    }
-}
-
-// No word stands at a place.
-fn no_reading(at: usize) -> Reading
-    ensures { λ r. ⌜ r ≡ readingAt at none ⌝ }
+// No word.
+fn no_reading() -> Reading
+    ensures { λ r. ⌜ r ≡ noReading ⌝ }
 {
     Reading {
         letter: 0,
         form: 0,
         number: 0,
-        end: at,
+        end: 0,
     }
+}
+
+// A word from its letter, the byte where its sign is due, and its number with the place where that starts.
+fn make_reading(letter: u8, sign: u8, from: usize, number: Number) -> Reading
+    requires { ⌜ (from + number .size < 2 ^ 64) × (number .value < 1000000) ⌝ }
+    ensures { λ r. ⌜ r ≡ readingOf letter sign from number ⌝ }
+{
+    if number.size == 0 {
+        return no_reading();
+    }
+    let form = form_of(is_sign(sign), number.pointed);
+    let value = with_sign(sign == b'-', number.value);
+    Reading {
+        letter,
+        form,
+        number: value,
+        end: from + number.size,
+    }
+}
+
+// How many bytes stand before the number: the letter, and the sign if the byte after it is one.
+fn front_size(sign: u8) -> usize
+    ensures { λ r. ⌜ r ≡ pick (isSign sign) 2 1 ⌝ }
+{
+    if is_sign(sign) { 2 } else { 1 }
 }
 
 // The word at a place.
@@ -165,24 +210,11 @@ fn read_word(text: &[u8], at: usize) -> Reading
 {
     let letter = byte_at(text, at);
     if !is_capital(letter) {
-        return no_reading(at);
+        return no_reading();
     }
     let sign = byte_at(text, at + 1);
     let from = at + front_size(sign);
-    let whole = read_digits(text, from, 6);
-    if whole.count == 0 {
-        return no_reading(at);
-    }
-    let end = from + whole.count;
-    if byte_at(text, end) != b'.' {
-        return make_reading(letter, sign, false, whole.value, end);
-    }
-    if 4 < whole.count {
-        return no_reading(at);
-    }
-    let decimals = read_digits(text, end + 1, 2);
-    let number = hundredths_of(whole.value, decimals);
-    make_reading(letter, sign, true, number, end + 1 + decimals.count)
+    make_reading(letter, sign, from, read_number(text, from))
 }
 
 // Whether a word with a form has neither sign nor point.
@@ -196,11 +228,7 @@ fn is_plain(form: u8) -> bool
 fn is_reading_code(form: u8, code: u32) -> bool
     ensures { λ r. ⌜ r ≡ both (isPlain (wordIn form (pos 0))) (among (90 ∷ 91 ∷ []) code) ⌝ }
 {
-    if is_plain(form) {
-        (code == 90) | (code == 91)
-    } else {
-        false
-    }
+    is_plain(form) & ((code == 90) | (code == 91))
 }
 
 // Whether a G code is that of a pattern.
@@ -266,10 +294,11 @@ fn with_number(mut tally: Tally) -> Tally
 fn is_late(letter: u8, coded: bool, code: u32) -> bool
     ensures { λ r. ⌜ r ≡ both (eqb letter letterA) (both coded (isPatternCode code)) ⌝ }
 {
-    if letter != b'A' {
-        return false;
+    if letter == b'A' {
+        coded & is_pattern_code(code)
+    } else {
+        false
     }
-    if coded { is_pattern_code(code) } else { false }
 }
 
 // The tally with a letter other than G; before: it stands in the block already.

@@ -17,7 +17,7 @@ use Rattle.text.specs.Lines.{lineAt, lineEnd}
 use Rattle.words.specs.declared.Tally.{Tally}
 use Rattle.words.specs.Keeping.{wordsWith}
 use Rattle.words.proofs.Line.{line-length}
-use Rattle.words.proofs.Gathering.{gathered-words, gathered-end, gathered-malformed}
+use Rattle.words.proofs.Gathering.{gathers-words, gathers-end, gathers-none}
 use Rattle.decode.specs.Decoding.{decodedOf}
 use Rattle.decode.proofs.Judging.{decode-malformed, line-clean, line-ranged, line-decodes, line-refused}
 use Rattle.decode.proofs.decode.Statement.{statement}
@@ -43,7 +43,7 @@ read-words-requires c κs = search needs
 returns : tie.Need-returns
 returns c =
     let r = c .before .before in
-    rw (decode-malformed (line r) (gathered-malformed (line r) (r .before .before .before .before .args .at) (tally r) (forms r) (numbers r) (r .read-words .ensures) (not-true (tally r .formed) (c .if1 .taken))))
+    rw (decode-malformed (line r) (gathers-none (line r) (r .before .before .before .before .args .at) (tally r) (forms r) (numbers r) (r .read-words .ensures) (not-true (tally r .formed) (c .if1 .taken))))
 
 judge-requires : tie.Need-judge-requires
 judge-requires c κs = search needs
@@ -54,11 +54,11 @@ module _ (c : tie.Else1) where
   read = c .before .before
 
   formed : words (line read) ≡ some (wordsWith (forms read) (numbers read) (tally read))
-  formed = gathered-words (line read) (read .before .before .before .before .args .at) (tally read) (forms read) (numbers read) (read .read-words .ensures) (not-false (tally read .formed) (c .if1 .left))
+  formed = gathers-words (line read) (read .before .before .before .before .args .at) (tally read) (forms read) (numbers read) (read .read-words .ensures) (not-false (tally read .formed) (c .if1 .left))
 
   ends : tally read .end ≡ lineEnd (read .before .before .before .before .args .text .now) (read .before .before .before .before .args .at)
   ends =
-      gathered-end (line read) (read .before .before .before .before .args .at) (tally read) (forms read) (numbers read) (read .read-words .ensures) (not-false (tally read .formed) (c .if1 .left))
+      gathers-end (line read) (read .before .before .before .before .args .at) (tally read) (forms read) (numbers read) (read .read-words .ensures) (not-false (tally read .formed) (c .if1 .left))
       ∙ ap (λ (n : ℕ). read .before .before .before .before .args .at + n) (line-length _)
 
 enum-known-judged : tie.Need-enum-known-judged

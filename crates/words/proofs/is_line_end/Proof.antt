@@ -1,6 +1,5 @@
 -- By the byte at the place, and past the end the line is empty. Assumes nothing.
-use mathlib.Core.Path.{sym, ap}
-use lib.Dec.{eqb}
+use mathlib.Core.Path.{sym}
 use borrow.Author.Needs.{needs}
 use Rattle.text.proofs.Lines.{line-past}
 use Rattle.words.proofs.Line.{line-empty}

@@ -1,6 +1,6 @@
 -- The invariant: the words from here on, after those read, are the words of the line; and no more are counted than
 -- bytes stand before here. Assumes nothing.
-use mathlib.Core.Path.{_≡_, refl, sym, ap, _∙_, subst}
+use mathlib.Core.Path.{_≡_, refl, sym, ap, _∙_}
 use mathlib.Core.List.{List}
 use mathlib.Core.Option.{some}
 use Prim.Native.Nat.{ℕ, _+_, _-_, _≤_, _<_}
@@ -73,9 +73,6 @@ module _ (c : tie.Else1 Inv-loop μ-loop) where
 
   less : length text - reading .end < length text - at
   less = omega (arith, fits .some-bytes, fits .inside, length-drop at text)
-
-  inside : at < length text
-  inside = omega (arith, fits .some-bytes, fits .inside, length-drop at text)
 
   -- its letter has a place among the 26
   placed : index < 26
@@ -157,7 +154,7 @@ element-copy-out-with-letter : tie.Need-element-copy-out-with-letter Inv-loop μ
 element-copy-out-with-letter c = placed (c .before)
 
 with-letter-requires : tie.Need-with-letter-requires Inv-loop μ-loop
-with-letter-requires c κs = omega (arith, inside (c .before .before))
+with-letter-requires c κs = omega (arith, less (c .before .before))
 
 element-write-forms : tie.Need-element-write-forms Inv-loop μ-loop
 element-write-forms c = placed (c .before .before .before)

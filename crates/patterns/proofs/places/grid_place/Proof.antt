@@ -1,48 +1,63 @@
--- The two coordinates, each by the signed sum. Assumes nothing.
-use mathlib.Core.Path.{_≡_, ap₂, _∙_}
-use lib.IntN.{pos, _+ℤ_, _*ℤ_}
-use mir.Syntax.{w32, w64}
-use mir.Val.{toZ, ofZ}
+-- The cursor's lane and how far along it lies, as columns and rows, are those of its place. Assumes nothing.
+use mathlib.Core.Path.{sym, ap, ap₂, _∙_}
+use mathlib.Core.Bool.{Bool}
+use Prim.Native.Nat.{ℕ}
+use lib.IntN.{pos, _*ℤ_}
 use borrow.Author.Needs.{needs}
-use Rattle.signed.proofs.Integers.{read-back}
-use Rattle.aries.specs.Moves.{pointAt}
+use Rattle.lanes.specs.Cursors.{passed}
+use Rattle.lanes.proofs.Cursors.{lane-passed}
+use Rattle.aries.specs.declared.point.Point.{Point}
+use Rattle.aries.specs.Moves.{pointAt, _⊕_}
+use Rattle.aries.specs.Patterns.{gridOffset}
+use Rattle.patterns.specs.Offsets.{laneEnd}
 use Rattle.patterns.proofs.places.grid_place.Statement.{statement}
 use Rattle.patterns.proofs.places.grid_place.Tie as tie
 
-start-x : (c : tie.Start) → toZ w32 (ofZ w32 (c .args .start .x)) ≡ c .args .start .x
-start-x c = search needs
+-- a place so many columns and rows away
+abbrev away : tie.Start → ℕ → ℕ → Point
+away c column row = c .args .start ⊕ pointAt (pos column *ℤ c .args .pitch .x) (pos row *ℤ c .args .pitch .y)
 
-start-y : (c : tie.Start) → toZ w32 (ofZ w32 (c .args .start .y)) ≡ c .args .start .y
-start-y c = search needs
+-- the cursor's place in a grid of the one or the other kind
+abbrev place : tie.Start → Bool → Point
+place c vertical = c .args .start ⊕ gridOffset vertical (c .args .pitch) (c .args .steps) (passed (laneEnd vertical (c .args .steps)) (c .args .cursor))
 
-pitch-x : (c : tie.Start) → toZ w32 (ofZ w32 (c .args .pitch .x)) ≡ c .args .pitch .x
-pitch-x c = search needs
+cast-lane : tie.Need-cast-lane
+cast-lane c = search needs
 
-pitch-y : (c : tie.Start) → toZ w32 (ofZ w32 (c .args .pitch .y)) ≡ c .args .pitch .y
-pitch-y c = search needs
+along-requires : tie.Need-along-requires
+along-requires c κs = rw (c .if1 .taken) at (c .before .before .pre .0)
 
--- the two coordinates
-x-is : (c : tie.After-affine) → c .affine .result ≡ c .before .before .before .before .before .args .start .x +ℤ (pos (c .before .before .before .before .before .args .column) *ℤ c .before .before .before .before .before .args .pitch .x)
-x-is c =
-    let a = c .before .before .before .before .before in
-    simp (start-x a, pitch-x a) at (c .affine .ensures)
+step-place-requires : tie.Need-step-place-requires
+step-place-requires c κs = search needs
 
-y-is : (c : tie.After-affine2) → c .affine2 .result ≡ c .before .before .before .before .before .before .args .start .y +ℤ (pos (c .before .before .before .before .before .before .args .row) *ℤ c .before .before .before .before .before .before .args .pitch .y)
-y-is c =
-    let a = c .before .before .before .before .before .before in
-    simp (start-y a, pitch-y a) at (c .affine2 .ensures)
+along-requires-2 : tie.Need-along-requires-2
+along-requires-2 c κs = rw (c .if1 .left) at (c .before .before .pre .0)
 
-affine-requires : tie.Need-affine-requires
-affine-requires c κs = search needs
-
-affine-requires-2 : tie.Need-affine-requires-2
-affine-requires-2 c κs = search needs
+step-place-requires-2 : tie.Need-step-place-requires-2
+step-place-requires-2 c κs = search needs
 
 returns : tie.Need-returns
 returns c =
-    ap₂ pointAt
-    (read-back w64 (c .before .affine .result) (c .before .affine .ok) ∙ x-is (c .before))
-    (read-back w64 (c .affine2 .result) (c .affine2 .ok) ∙ y-is c)
+    let t = c .before .before in
+    let e = t .before .before in
+    let lane-is = lane-passed (e .args .steps .y) (e .args .cursor) (along-requires t (c .before .along .lifetimes)) in
+    c .step-place .ensures ∙ ap₂ (away e) (sym lane-is) (c .before .along .ensures) ∙ ap (place e) (sym (t .if1 .taken))
+
+returns-2 : tie.Need-returns-2
+returns-2 c =
+    let t = c .before .before in
+    let e = t .before .before in
+    let lane-is = lane-passed (e .args .steps .x) (e .args .cursor) (along-requires-2 t (c .before .along2 .lifetimes)) in
+    c .step-place2 .ensures ∙ ap₂ (away e) (c .before .along2 .ensures) (sym lane-is) ∙ ap (place e) (sym (t .if1 .left))
 
 pub grid-place-spec : {M : Type 1} → statement M
-grid-place-spec = tie.close (tie.spec affine-requires affine-requires-2 returns)
+grid-place-spec =
+    tie.close
+    (tie.spec
+    cast-lane
+    along-requires
+    step-place-requires
+    along-requires-2
+    step-place-requires-2
+    returns
+    returns-2)

@@ -1,13 +1,14 @@
 -- The pattern, from the progress that the definition gives it. Assumes nothing.
-use mathlib.Core.Path.{_≡_, ap, _∙_}
-use lib.ListN.{length}
+use mathlib.Core.Path.{_≡_, refl, ap, _∙_}
+use Prim.Native.Nat.{ℕ}
 use borrow.Author.Needs.{needs}
+use Rattle.aries.specs.declared.block.Pattern.{Pattern}
+use Rattle.aries.specs.declared.state.Frame.{Frame}
 use Rattle.aries.specs.declared.state.State.{State}
 use Rattle.aries.specs.declared.state.Progress.{Progress}
-use Rattle.aries.specs.Judging.{lent}
+use Rattle.aries.specs.Judging.{Judging, limits}
 use Rattle.aries.specs.Moves.{choosing, remembering, withState}
-use Rattle.aries.proofs.Runs.{ran-as}
-use Rattle.patterns.proofs.Patterns.{run-pattern-is}
+use Rattle.aries.specs.Patterns.{pattern, runPattern}
 use Rattle.patterns.proofs.runs.run_pattern.Statement.{statement}
 use Rattle.patterns.proofs.runs.run_pattern.Tie as tie
 
@@ -33,13 +34,17 @@ carry-out-requires c κs = search needs
 same-length : tie.Need-same-length
 same-length c = search needs
 
+-- a pattern block is its pattern, from this progress
+runs : (j : Judging) (f : Frame) (line : ℕ) (p : Pattern) (t n : ℕ) (g : Progress)
+    → runPattern j f line p t n g ≡ pattern j f line p (withState g (remembering (choosing (g .state) t) n p))
+unfolding runPattern
+runs j f line p t n g = refl
+
 returns : tie.Need-returns
 returns c =
     let d = c .before .before .before in
     let a = d .before .before .before .before .args in
-    let r = c .before .carry-out .result in
-    ran-as (λ (g : Progress). g .hits) (r .status) (r .progress) (a .list .now) _ (a .progress .hits)
-    (run-pattern-is (lent (length (a .list .now))) (a .frame) (a .line) (a .pattern) (a .tool) (a .memory) (a .progress))
+    rw (runs (limits (a .frame .job)) (a .frame) (a .line) (a .pattern) (a .tool) (a .memory) (a .progress))
     (rw (ready-is d) at (c .before .carry-out .ensures))
 
 pub run-pattern-spec : {M : Type 1} → statement M

@@ -1,15 +1,17 @@
--- Each way out is a law of what is judged of a hit. Assumes nothing.
-use mathlib.Core.Path.{_≡_, refl, sym, ap, _∙_}
-use mathlib.Core.Bool.{true, false}
-use Prim.Native.Nat.{_<_}
+-- Each way out is the definition's, by the tests on the way. Assumes nothing.
+use mathlib.Core.Path.{_≡_, refl, sym, _∙_}
+use mathlib.Core.Bool.{Bool, true, false}
 use native.Mathlib.Omega.{arith}
-use borrow.Author.Tests.{not-true, not-false}
+use lib.Dec.{ltb}
+use borrow.Author.Tests.{lt-ltb, le-ltb, not-true, not-false}
 use Rattle.aries.specs.declared.point.Point.{Point}
 use Rattle.aries.specs.Places.{pointOf}
 use Rattle.aries.specs.Machine.{inRange}
 use Rattle.aries.specs.Judging.{near}
+use Rattle.aries.specs.Test.{pick}
+use Rattle.press.specs.declared.hits.Judged.the-variants.{Refused}
 use Rattle.press.proofs.Located.{located-at, located-far}
-use Rattle.press.proofs.Punch.{hit-no-tool, hit-outside, hit-too-far, hit-full, hit-passes}
+use Rattle.press.specs.Hits.{judgedHit}
 use borrow.Author.Needs.{needs}
 use Rattle.press.proofs.hits.hit.Statement.{statement}
 use Rattle.press.proofs.hits.hit.Tie as tie
@@ -22,8 +24,13 @@ abbrev point : tie.After-covers → Point
 point c = pointOf (entry c .args .place)
 
 -- a tool is chosen
-has-tool : (c : tie.After-covers) → 0 < entry c .args .tool
-has-tool c = omega arith
+has-tool : (c : tie.After-covers) → ltb 0 (entry c .args .tool) ≡ true
+has-tool c = lt-ltb 0 (entry c .args .tool) (omega arith)
+
+-- 15 or 16, out of the range
+which : (n : Bool) → Refused (pick n 16 15) ≡ pick n (Refused 16) (Refused 15)
+which true = refl
+which false = refl
 
 is-inside : (c : tie.Else2) → inRange (entry (c .before) .args .frame) (point (c .before)) ≡ true
 is-inside c = sym (c .before .covers .ensures) ∙ not-false (c .before .covers .result) (c .if2 .left)
@@ -35,9 +42,9 @@ is-located c =
     located-at (point (l .before .before)) (c .located2 .given .0 .0) (sym (c .located2 .given .1) ∙ l .located .ensures)
 
 returns : tie.Need-returns
+unfolding judgedHit
 returns c =
-    let a = c .before .args in
-    (hit-no-tool (a .frame) (pointOf (a .place)) (a .tool) (a .hits) (c .if1 .taken), refl)
+    (simp (le-ltb 0 (c .before .args .tool) (omega arith)), refl)
 
 covers-requires : tie.Need-covers-requires
 covers-requires c κs = search needs
@@ -46,11 +53,11 @@ out-of-range-requires : tie.Need-out-of-range-requires
 out-of-range-requires c κs = search needs
 
 returns-2 : tie.Need-returns-2
+unfolding judgedHit
 returns-2 c =
     let d = c .before .before in
-    let a = entry d .args in
     let outside = sym (d .covers .ensures) ∙ not-true (d .covers .result) (c .before .if2 .taken) in
-    (rw (c .out-of-range .ensures) (hit-outside (a .frame) (point d) (a .tool) (a .hits) (has-tool d) outside), refl)
+    (rw (c .out-of-range .ensures) (simp (has-tool d, outside) (which (near (point d)))), refl)
 
 located-requires : tie.Need-located-requires
 located-requires c κs = search needs
@@ -62,33 +69,34 @@ enum-known-located : tie.Need-enum-known-located
 enum-known-located c = search needs
 
 returns-3 : tie.Need-returns-3
+unfolding judgedHit
 returns-3 c =
-    let l = c .before .before .before in
+    let l = c .before .before in
     let e = l .before .before .before in
     let a = entry (e .before) .args in
-    (hit-full (a .frame) (point (e .before)) (a .tool) (a .hits) (has-tool (e .before)) (is-located l .0) (is-inside e) (c .if3 .taken), refl)
+    (simp (has-tool (e .before), is-located l .0, is-inside e, le-ltb (a .hits) (a .frame .job .places) (c .if3 .taken)), refl)
 
 put-hit-requires : tie.Need-put-hit-requires
 put-hit-requires c κs = search needs
 
 returns-4 : tie.Need-returns-4
+unfolding judgedHit
 returns-4 c =
     let l = c .before .before in
     let d = l .before .before in
-    let a = entry d .args in
-    let far = located-far (point d) (sym (c .enum-told .given .1) ∙ l .located .ensures) in
-    (hit-too-far (a .frame) (point d) (a .tool) (a .hits) (has-tool d) far, refl)
+    (simp (has-tool d, located-far (point d) (sym (c .enum-told .given .1) ∙ l .located .ensures)), refl)
 
 same-length : tie.Need-same-length
 same-length c = search needs
 
 returns-5 : tie.Need-returns-5
+unfolding judgedHit
 returns-5 c =
     let t = c .before .before .before in
-    let l = t .before .before .before in
+    let l = t .before .before in
     let e = l .before .before .before in
     let a = entry (e .before) .args in (
-      rw (is-located l .1) (hit-passes (a .frame) (point (e .before)) (a .tool) (a .hits) (has-tool (e .before)) (is-located l .0) (is-inside e) (t .if3 .left)),
+      rw (is-located l .1) (simp (has-tool (e .before), is-located l .0, is-inside e, lt-ltb (a .hits) (a .frame .job .places) (t .if3 .left))),
       c .before .put-hit .ensures,
     )
 

@@ -1,16 +1,15 @@
--- Each way out is a law of `move`, whatever is lent. Assumes nothing.
+-- Each way out is the definition's, by the tests on the way, whatever is lent. Assumes nothing.
 use mathlib.Core.Path.{_≡_, refl, sym, ap, ap₂, _∙_}
 use mathlib.Core.Bool.{true, false}
 use borrow.Author.Tests.{not-true, not-false}
 use Rattle.aries.specs.declared.point.Point.{Point}
 use Rattle.aries.specs.declared.state.Progress.{Progress}
-use Rattle.aries.specs.Judging.{limits, near}
+use Rattle.aries.specs.Judging.{near}
 use Rattle.aries.specs.Machine.{inRange}
 use Rattle.aries.specs.Moves.{movedTo, choosing, dropping, withState, target, move}
 use Rattle.aries.specs.Places.{located}
 use Rattle.aries.proofs.Carried.{carried-refused, carried-still}
 use Rattle.press.proofs.Located.{located-at, located-far}
-use Rattle.press.proofs.Move.{move-too-far, move-out-of-range, move-made}
 use borrow.Author.Needs.{needs}
 use Rattle.press.proofs.moves.move_to.Statement.{statement}
 use Rattle.press.proofs.moves.move_to.Tie as tie
@@ -62,13 +61,14 @@ refused-requires-2 : tie.Need-refused-requires-2
 refused-requires-2 c κs = search needs
 
 returns : tie.Need-returns
+unfolding move
 returns c =
     λ l.
     let d = c .before .before in
     let a = entry (before-covers d) .args in
     let outside = sym (covers-is d) ∙ not-true (d .covers .result) (c .before .if1 .taken) in
-    carried-refused (a .frame) (λ j. move j (a .frame) (a .line) (a .axes) (a .tool)) (c .refused2 .ensures)
-    (move-out-of-range (limits (a .frame .job)) (a .frame) (a .line) (a .axes) (a .tool) (a .progress) (is-located (d .before .before) .0) outside)
+    carried-refused (a .frame) (λ j. move j (a .frame) (a .line) (a .axes) (a .tool)) {g = a .progress} (c .refused2 .ensures)
+    (simp ((is-located (d .before .before) .0), outside))
 
 choosing-requires : tie.Need-choosing-requires
 choosing-requires c κs = search needs
@@ -94,23 +94,25 @@ passed-requires : tie.Need-passed-requires
 passed-requires c κs = search needs
 
 returns-2 : tie.Need-returns-2
+unfolding move
 returns-2 c =
     λ l.
     let d = c .before .before .before in
     let a = entry d .args in
     let far = located-far (end d) (sym (c .before .enum-told .given .1) ∙ located-is d) in
-    carried-refused (a .frame) (λ j. move j (a .frame) (a .line) (a .axes) (a .tool)) (c .refused .ensures)
-    (move-too-far (limits (a .frame .job)) (a .frame) (a .line) (a .axes) (a .tool) (a .progress) far)
+    carried-refused (a .frame) (λ j. move j (a .frame) (a .line) (a .axes) (a .tool)) {g = a .progress} (c .refused .ensures)
+    (simp far)
 
 returns-3 : tie.Need-returns-3
+unfolding move
 returns-3 c =
     λ l.
     let e = c .before .before .before .before .before in
     let d = e .before in
     let a = entry (before-covers d) .args in
     let inside = sym (covers-is d) ∙ not-false (d .covers .result) (e .if1 .left) in
-    carried-still (a .frame) (λ j. move j (a .frame) (a .line) (a .axes) (a .tool)) (rw (moved-is (c .before)) at (c .passed .ensures)) refl
-    (move-made (limits (a .frame .job)) (a .frame) (a .line) (a .axes) (a .tool) (a .progress) (is-located (d .before .before) .0) inside)
+    carried-still (a .frame) (λ j. move j (a .frame) (a .line) (a .axes) (a .tool)) {g = a .progress} (rw (moved-is (c .before)) at (c .passed .ensures)) refl
+    (simp ((is-located (d .before .before) .0), inside))
 
 pub move-to-spec : {M : Type 1} → statement M
 move-to-spec =

@@ -1,14 +1,13 @@
--- Each way out is a law of `setPatternOrigin`, whatever is lent. Assumes nothing.
+-- Each way out is the definition's, by the tests on the way, whatever is lent. Assumes nothing.
 use mathlib.Core.Path.{_≡_, refl, sym, ap, _∙_}
 use mathlib.Core.Bool.{true}
 use Rattle.aries.specs.declared.point.Point.{Point}
 use Rattle.aries.specs.declared.state.Waiting.the-variants.{At}
-use Rattle.aries.specs.Judging.{limits, near}
+use Rattle.aries.specs.Judging.{near}
 use Rattle.aries.specs.Moves.{waitingFor, withState, target, setPatternOrigin}
 use Rattle.aries.specs.Places.{located}
 use Rattle.aries.proofs.Carried.{carried-refused, carried-still}
 use Rattle.press.proofs.Located.{located-at, located-far}
-use Rattle.press.proofs.PatternOrigin.{origin-too-far, origin-set}
 use borrow.Author.Needs.{needs}
 use Rattle.press.proofs.moves.set_pattern_origin.Statement.{statement}
 use Rattle.press.proofs.moves.set_pattern_origin.Tie as tie
@@ -53,15 +52,17 @@ passed-requires : tie.Need-passed-requires
 passed-requires c κs = search needs
 
 returns : tie.Need-returns
+unfolding setPatternOrigin
 returns c =
     λ l.
     let d = c .before .before .before in
     let a = entry d .args in
     let far = located-far (origin d) (sym (c .before .enum-told .given .1) ∙ located-is d) in
-    carried-refused (a .frame) (λ j. setPatternOrigin j (a .frame) (a .line) (a .axes)) (c .refused .ensures)
-    (origin-too-far (limits (a .frame .job)) (a .frame) (a .line) (a .axes) (a .progress) far)
+    carried-refused (a .frame) (λ j. setPatternOrigin j (a .frame) (a .line) (a .axes)) {g = a .progress} (c .refused .ensures)
+    (simp far)
 
 returns-2 : tie.Need-returns-2
+unfolding setPatternOrigin
 returns-2 c =
     λ l.
     let w = c .before .before in
@@ -69,8 +70,8 @@ returns-2 c =
     let a = entry (o .before .before) .args in
     let waits = w .waiting-at .ensures ∙ ap (λ (p : Point). waitingFor (a .progress .state) (At p)) (is-located o .1) in
     let left = c .before .with-state .ensures ∙ ap (withState (a .progress)) waits in
-    carried-still (a .frame) (λ j. setPatternOrigin j (a .frame) (a .line) (a .axes)) (rw left at (c .passed .ensures)) refl
-    (origin-set (limits (a .frame .job)) (a .frame) (a .line) (a .axes) (a .progress) (is-located o .0))
+    carried-still (a .frame) (λ j. setPatternOrigin j (a .frame) (a .line) (a .axes)) {g = a .progress} (rw left at (c .passed .ensures)) refl
+    (simp (is-located o .0))
 
 pub set-pattern-origin-spec : {M : Type 1} → statement M
 set-pattern-origin-spec =

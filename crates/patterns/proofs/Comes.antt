@@ -1,0 +1,124 @@
+-- Laws of a series of hits: what holds before each hit, at the start, after a hit, at a refusal and at the end. The loop of
+-- each kind of pattern has it as its invariant.
+use mathlib.Core.Path.{_≡_, refl, sym, ap, _∙_}
+use Prim.Native.Nat.{ℕ, zero, suc, _+_, _-_, _≤_, _<_}
+use native.Mathlib.Nat.{sub-zero}
+use native.Mathlib.Omega.{arith}
+use Rattle.aries.specs.declared.point.Point.{Point}
+use Rattle.aries.specs.declared.block.Pattern.{Pattern}
+use Rattle.aries.specs.declared.block.Pattern.the-variants.{Line, Arc, Circle, Grid}
+use Rattle.aries.specs.declared.job.Job.{Job}
+use Rattle.aries.specs.declared.state.Frame.{Frame}
+use Rattle.aries.specs.declared.state.Progress.{Progress}
+use Rattle.aries.specs.declared.state.Status.the-variants.{Passed, Refused}
+use Rattle.patterns.specs.declared.series.Punch.{Punch}
+use Rattle.patterns.specs.declared.series.Reached.{Reached}
+use Rattle.aries.specs.Outcome.{Out, done, refused}
+use Rattle.aries.specs.Hits.{Made, still, andThen, leaving}
+use Rattle.aries.specs.Judging.{limits}
+use Rattle.aries.specs.Moves.{_⊕_, punch}
+use Rattle.aries.specs.Patterns.{hole, holes, punches, ending}
+use Rattle.aries.specs.Runs.{Lent, hitsMade, Ran}
+use Rattle.aries.proofs.Runs.{ran-refused, ran-leaving, Leads, leads-start, leads-as, leads-on, leads-out, leads-end}
+use Rattle.patterns.specs.Series.{come, statusAt, Comes, series}
+
+-- the end of a pattern makes no hit
+ending-hits : (p : Pattern) (start : Point) (g : Progress) → ending p start g .hits ≡ g .hits
+ending-hits (Line pitch angle count) start g = refl
+ending-hits (Arc radius angle step count) start g = refl
+ending-hits (Circle radius angle clockwise count) start g = refl
+ending-hits (Grid vertical pitch steps) start g = refl
+
+-- a refusal is one, whatever its result would be seen as
+refused-leaving : {job : Job} {left : Progress} {before after : Lent} {k number line : ℕ} (f : Progress → Progress) (out : Out (Made Progress))
+    → Ran hitsMade job (Refused number line) left before after k out → Ran hitsMade job (Refused number line) left before after k (leaving f out)
+refused-leaving f (refused number line) h = rw (h .same-status) ran-refused
+refused-leaving f (done m) h = let z : _≡_ {A = ℕ} 0 1 = cc (h .same-status) in absurd (omega arith)
+
+-- a number that is not 0 is a refusal's
+pub status-refused : (number line : ℕ) → 0 < number → statusAt number line ≡ Refused number line
+status-refused zero line h = absurd (omega arith)
+status-refused (suc n) line h = refl
+
+-- what a series of hits starts from
+pub record Series : Type 0 where
+  pub frame : Frame
+  pub with : Punch
+  pub pattern : Pattern
+  pub start : Point
+  pub hits : ℕ
+  pub before : Lent
+  pub count : ℕ
+
+-- what it comes to
+abbrev pub Ends : Series → Reached → Lent → Type 0
+Ends s r after = Comes r (s .frame) (s .with) (s .start) (s .hits) (s .before) after (series (s .frame) (s .pattern) (s .start))
+
+module _ (s : Series) where
+  -- so many hits from hit k on, at a line
+  abbrev left : ℕ → ℕ → ℕ → Progress → Out (Made Progress)
+  left line n k g = punches (limits (s .frame .job)) (s .frame) line (s .pattern) (s .start) n k g
+
+  abbrev all : ℕ → Progress → Out (Made Progress)
+  all line g = left line (s .count) 0 (come g (s .with) (s .start) (s .hits))
+
+  abbrev reached : Reached → Progress → Progress
+  reached made g = come g (s .with) (made .current) (made .hits)
+
+  abbrev hitAt : Point → ℕ → Progress → Out (Made Progress)
+  hitAt place line g = punch (limits (s .frame .job)) (s .frame) line place g
+
+  -- no hit was refused, and whoever makes the hits from hit k on from here has made all
+  pub record Under (now : Lent) (made : Reached) (k : ℕ) : Type 0 where
+    pub inside : k ≤ s .count
+    pub passed : made .number ≡ 0
+    pub leads : (line : ℕ) (g : Progress)
+        → Leads hitsMade (s .frame .job) now (made .hits) (left line (s .count - k) k (reached made g)) (s .before) (s .hits) (all line g)
+
+  -- at the start
+  pub under-start : Under (s .before) (record { number = 0; current = s .start; hits = s .hits }) 0
+  under-start =
+      record {
+        inside = omega arith;
+        passed = refl;
+        leads = λ line g. leads-start (ap (λ (n : ℕ). left line n 0 (come g (s .with) (s .start) (s .hits))) (sub-zero (s .count)));
+      }
+
+  -- hit k, and then what is left
+  turn : (k : ℕ) (place : Point) → k < s .count → place ≡ s .start ⊕ hole (s .pattern) k → (line : ℕ) (g : Progress)
+      → left line (s .count - k) k g ≡ andThen (hitAt place line g) (left line (s .count - (k + 1)) (k + 1))
+  unfolding punches
+  turn k place more is line g =
+      let e : s .count - k ≡ suc (s .count - (k + 1)) = omega arith in
+      let f : suc k ≡ k + 1 = omega arith in
+      rw (e, is) (ap (λ (n : ℕ). andThen (hitAt (s .start ⊕ hole (s .pattern) k) line g) (left line (s .count - (k + 1)) n)) f)
+
+  module _ {now next : Lent} {made : Reached} {k : ℕ} {place : Point} (under : Under now made k) (more : k < s .count) (is : place ≡ s .start ⊕ hole (s .pattern) k)
+      (r : Reached) (comes : Comes r (s .frame) (s .with) (made .current) (made .hits) now next (hitAt place)) where
+    -- a hit that is made
+    pub under-next : r .number ≡ 0 → Under next r (k + 1)
+    under-next none =
+        record {
+          inside = omega arith;
+          passed = none;
+          leads = λ line g.
+              leads-on (hitAt place line (reached made g)) (left line (s .count - (k + 1)) (k + 1))
+              (rw none at (comes line g)) (leads-as (turn k place more is line (reached made g)) (under .leads line g));
+        }
+
+    -- and one that is refused
+    pub under-refused : 0 < r .number → s .count ≡ holes (s .pattern) → Ends s r next
+    under-refused some same line g =
+        rw (status-refused (r .number) line some, ← same)
+        (refused-leaving (ending (s .pattern) (s .start)) (all line g)
+        (leads-out (left line (s .count - (k + 1)) (k + 1)) (rw (status-refused (r .number) line some) at (comes line g))
+        (leads-as (turn k place more is line (reached made g)) (under .leads line g))))
+
+  -- at the end
+  pub under-end : {now : Lent} {made : Reached} {k : ℕ} (r : Reached) → Under now made k → s .count ≤ k → s .count ≡ holes (s .pattern) → r .number ≡ 0
+      → ((g : Progress) → reached r g ≡ ending (s .pattern) (s .start) (reached made g)) → Ends s r now
+  unfolding punches
+  under-end {made = made} {k} r under past same none ends line g =
+      let e : s .count - k ≡ 0 = omega arith in
+      rw (none, ends g, ← same)
+      (ran-leaving (ending (s .pattern) (s .start)) (ending-hits (s .pattern) (s .start)) (all line g) (leads-end (rw e at (under .leads line g))))

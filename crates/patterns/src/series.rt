@@ -1,0 +1,239 @@
+use crate::places;
+use crate::sizes;
+use aries::block::Pattern;
+use aries::block::Steps;
+use aries::point::Place;
+use aries::point::Point;
+use aries::state::Frame;
+use lanes::Cursor;
+use press::hits;
+use press::hits::Judged;
+ghost use mathlib.Core.Path.{_≡_};
+ghost use mathlib.Core.Bool.{true};
+ghost use lib.IntN.{pos, _*ℤ_};
+ghost use Rattle.aries.specs.declared.block.Pattern.the-variants.{Line, Arc, Circle, Grid};
+ghost use Rattle.aries.specs.Judging.{isNear, limits};
+ghost use Rattle.aries.specs.Moves.{punch};
+ghost use Rattle.aries.specs.Patterns.{reaches};
+ghost use Rattle.aries.specs.Places.{pointOf};
+ghost use Rattle.aries.specs.Runs.{lent};
+ghost use Rattle.patterns.specs.Series.{Comes, series};
+
+// What hits are made with.
+pub struct Punch {
+    pub tool: u8,
+    pub nibble: bool,
+}
+
+// How far a series of hits has come: the number of the refusal that ended it, or 0, the last point and the hits made.
+pub struct Reached {
+    pub number: u8,
+    pub current: Point,
+    pub hits: usize,
+}
+
+// One hit more, or its refusal.
+fn punch_next(list: &mut [i32], frame: Frame, with: Punch, place: Place, from: Reached) -> Reached
+    ensures { λ r. ⌜ Comes r frame with (from .current) (from .hits) (lent (now (list .entry))) (lent (now (list .exit))) (λ line. punch (limits (frame .job)) frame line (pointOf place)) ⌝ }
+{
+    let hits = from.hits;
+    let current = from.current;
+    let judged = hits::hit(list, frame, place, with.tool, with.nibble, hits);
+    match judged {
+        Judged::Refused(number) => Reached {
+            number,
+            current,
+            hits,
+        },
+        Judged::Made(point) => Reached {
+            number: 0,
+            current: point,
+            hits: hits + 1,
+        },
+    }
+}
+
+// The hits of a line.
+fn punch_line(
+    list: &mut [i32],
+    frame: Frame,
+    with: Punch,
+    start: Point,
+    hits: usize,
+    pitch: i32,
+    angle: i32,
+    count: u16,
+) -> Reached
+    requires { ⌜ isNear (pos count *ℤ pitch) ≡ true ⌝ }
+    ensures { λ r. ⌜ Comes r frame with start hits (lent (now (list .entry))) (lent (now (list .exit))) (series frame (Line pitch angle count) start) ⌝ }
+{
+    let direction = places::line_direction(angle);
+    let mut made = Reached {
+        number: 0,
+        current: start,
+        hits,
+    };
+    let mut k = 0;
+    while k < count {
+        k += 1;
+        let place = places::line_place(start, pitch, direction, k);
+        made = punch_next(list, frame, with, place, made);
+        if 0 < made.number {
+            return made;
+        }
+    }
+    made
+}
+
+// The hits of an arc.
+fn punch_arc(
+    list: &mut [i32],
+    frame: Frame,
+    with: Punch,
+    start: Point,
+    hits: usize,
+    radius: i32,
+    angle: i32,
+    step: i32,
+    count: u16,
+) -> Reached
+    ensures { λ r. ⌜ Comes r frame with start hits (lent (now (list .entry))) (lent (now (list .exit))) (series frame (Arc radius angle step count) start) ⌝ }
+{
+    let degrees = sine::degree_sines();
+    let sines = sine::hundredth_sines();
+    let cosines = sine::hundredth_cosines();
+    let mut made = Reached {
+        number: 0,
+        current: start,
+        hits,
+    };
+    let mut k = 0;
+    while k < count {
+        let turned = signed::affine(angle, k, step);
+        let place = places::arc_place(start, radius, turned, &degrees, &sines, &cosines);
+        made = punch_next(list, frame, with, place, made);
+        if 0 < made.number {
+            return made;
+        }
+        k += 1;
+    }
+    made
+}
+
+// The hits of a circle, which ends at its start.
+fn punch_circle(
+    list: &mut [i32],
+    frame: Frame,
+    with: Punch,
+    start: Point,
+    hits: usize,
+    radius: i32,
+    angle: i32,
+    clockwise: bool,
+    count: u16,
+) -> Reached
+    ensures { λ r. ⌜ Comes r frame with start hits (lent (now (list .entry))) (lent (now (list .exit))) (series frame (Circle radius angle clockwise count) start) ⌝ }
+{
+    let degrees = sine::degree_sines();
+    let sines = sine::hundredth_sines();
+    let cosines = sine::hundredth_cosines();
+    let mut made = Reached {
+        number: 0,
+        current: start,
+        hits,
+    };
+    let mut k = 0;
+    while k < count {
+        let turned = places::circle_angle(angle, clockwise, count, k);
+        let place = places::arc_place(start, radius, turned, &degrees, &sines, &cosines);
+        made = punch_next(list, frame, with, place, made);
+        if 0 < made.number {
+            return made;
+        }
+        k += 1;
+    }
+    made.current = start;
+    made
+}
+
+// The hits of a grid, lane by lane.
+fn punch_grid(
+    list: &mut [i32],
+    frame: Frame,
+    with: Punch,
+    start: Point,
+    hits: usize,
+    vertical: bool,
+    pitch: Point,
+    steps: Steps,
+) -> Reached
+    ensures { λ r. ⌜ Comes r frame with start hits (lent (now (list .entry))) (lent (now (list .exit))) (series frame (Grid vertical pitch steps) start) ⌝ }
+{
+    let count = sizes::grid_holes(steps);
+    let last = sizes::lane_end(vertical, steps);
+    let mut made = Reached {
+        number: 0,
+        current: start,
+        hits,
+    };
+    let mut cursor = Cursor::first();
+    let mut k = 0;
+    while k < count {
+        cursor = cursor.next(last);
+        let place = places::grid_place(start, vertical, pitch, steps, cursor);
+        made = punch_next(list, frame, with, place, made);
+        if 0 < made.number {
+            return made;
+        }
+        k += 1;
+    }
+    made
+}
+
+// The hits of a pattern in turn, up to the first refusal.
+pub fn punch_series(
+    list: &mut [i32],
+    frame: Frame,
+    with: Punch,
+    start: Point,
+    hits: usize,
+    pattern: Pattern,
+) -> Reached
+    requires { ⌜ reaches pattern ≡ true ⌝ }
+    ensures { λ r. ⌜ Comes r frame with start hits (lent (now (list .entry))) (lent (now (list .exit))) (series frame pattern start) ⌝ }
+{
+    match pattern {
+        Pattern::Line {
+            pitch,
+            angle,
+            count,
+        } => punch_line(list, frame, with, start, hits, pitch, angle, count),
+        Pattern::Arc {
+            radius,
+            angle,
+            step,
+            count,
+        } => punch_arc(list, frame, with, start, hits, radius, angle, step, count),
+        Pattern::Circle {
+            radius,
+            angle,
+            clockwise,
+            count,
+        } => punch_circle(
+            list,
+            frame,
+            with,
+            start,
+            hits,
+            radius,
+            angle,
+            clockwise,
+            count,
+        ),
+        Pattern::Grid {
+            vertical,
+            pitch,
+            steps,
+        } => punch_grid(list, frame, with, start, hits, vertical, pitch, steps),
+    }
+}
