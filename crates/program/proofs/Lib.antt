@@ -3,3 +3,4 @@ pub mod Turns
 pub mod Placed
 pub mod RunFrom
 pub mod Stretches
+pub mod Underway

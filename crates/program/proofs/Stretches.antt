@@ -30,7 +30,7 @@ use Rattle.stretches.proofs.Stops.{Behind, first-line}
 use Rattle.stretches.proofs.Stretches.{refused-out}
 use Rattle.program.specs.declared.turn.Next.the-variants as Next
 use Rattle.program.specs.declared.turn.Turn.{Turn}
-use Rattle.program.specs.Turns.{program, at, placed, linesFrom, blockThen, leftOf, Comes, Beyond, Turns}
+use Rattle.program.specs.Turns.{program, at, placed, linesFrom, leftOf, Comes, Beyond, Turns}
 use Rattle.program.proofs.RunFrom.{from-end}
 
 -- hits, and then hits
@@ -39,11 +39,15 @@ adding-again a b (refused number line) = refl
 adding-again a b (done m) = ap (λ (l : List Hit). done (record { hits = l; after = m .after })) (sym (append-assoc a b (m .hits)))
 
 module _ (j : Judging) (t : List ℕ) (s : Setup) (m : Macros) where
+  -- a block, and then the lines behind it
+  abbrev blockThen : ℕ → ℕ → Block → Program → Out (Made Program)
+  blockThen end line b p = andThen (placed j t end line b p) (linesFrom j t end line)
+
   -- what follows a stretch
   abbrev pub following : Stop → Program → Out (Made Program)
   following Stop.End p = still p
-  following (Stop.Call n end line) p = blockThen j t end line (Block.Call n) p
-  following (Stop.Outside o end line) p = blockThen j t end line (Block.Outside o) p
+  following (Stop.Call n end line) p = blockThen end line (Block.Call n) p
+  following (Stop.Outside o end line) p = blockThen end line (Block.Outside o) p
 
   abbrev all : Stretched → Out (Made Program)
   all x = andThen (leaving (program Running s m) (x .made)) (following (x .stop))
@@ -69,10 +73,10 @@ module _ (j : Judging) (t : List ℕ) (s : Setup) (m : Macros) where
       carried (done n) = ap (adding (n .hits)) (same (n .after)) ∙ adding-all (n .hits) (later (n .after))
       carried (refused number place) = refl
 
-      stops : (d : Block) (g : Progress) → andThen (placed j t end line d (program Running s m g)) rest ≡ adding [] (blockThen j t end line d (program Running s m g))
+      stops : (d : Block) (g : Progress) → andThen (placed j t end line d (program Running s m g)) rest ≡ adding [] (blockThen end line d (program Running s m g))
       stops d g =
           ap (andThen (placed j t end line d (program Running s m g))) (fun-ext past)
-          ∙ sym (still-then (program Running s m g) (blockThen j t end line d))
+          ∙ sym (still-then (program Running s m g) (blockThen end line d))
 
       blocks : (d : Block) (g : Progress) → andThen (placed j t end line d (program Running s m g)) rest ≡ all (onward (blockStep j (ordinaryFrame s) end line d g) later)
       blocks (Block.Direct d) g = carried (carryDirect j (ordinaryFrame s) line d g)

@@ -9,7 +9,7 @@ use Rattle.aries.specs.declared.setup.Stage.{Stage}
 use Rattle.aries.specs.declared.setup.Stage.the-variants.{Running}
 use Rattle.aries.specs.declared.state.Progress.{Progress}
 use Rattle.aries.specs.Outcome.{Out, refused}
-use Rattle.aries.specs.Hits.{Made, still}
+use Rattle.aries.specs.Hits.{Made, still, andThen}
 use Rattle.aries.specs.Judging.{Judging, limits}
 use Rattle.aries.specs.Runs.{Lent, hitsOfProgram, Ran}
 use Rattle.aries.specs.declared.setup.Program.{Program}
@@ -17,7 +17,7 @@ use Rattle.aries.proofs.Runs.{still-then}
 use Rattle.program.specs.declared.turn.Next.{Next}
 use Rattle.program.specs.declared.turn.Next.the-variants.{Line, Run, Open, Refused}
 use Rattle.program.specs.declared.turn.Turn.{Turn}
-use Rattle.program.specs.Turns.{program, at, linesFrom, blockThen, leftOf, Comes, Beyond, Leaves, Settles, Turns}
+use Rattle.program.specs.Turns.{program, at, placed, linesFrom, leftOf, Comes, Beyond, Leaves, Settles, Turns}
 
 -- ---- Something that makes no hit
 
@@ -80,7 +80,13 @@ module _ {r : Turn} (t : List ℕ) (from line : ℕ) (stage : Stage) (s : Setup)
   -- a block that was settled, which found a progress of its own
   pub turns-settled :
       {g' : Progress} (end place : ℕ) (b : Block) → Settles r end place b stage s g' → g' .hits ≡ g .hits → Beyond t from end place
-      → ((m : Macros) → linesFrom (limits (s .job)) t from line (program stage s m g) ≡ blockThen (limits (s .job)) t end place b (program stage s m g'))
+      → ((m : Macros) → linesFrom (limits (s .job)) t from line (program stage s m g) ≡ andThen (placed (limits (s .job)) t end place b (program stage s m g')) (linesFrom (limits (s .job)) t end place))
       → (l : Lent) → Turns r t from line stage s g l l
   turns-settled end place b settled h far same l =
       turns-same r t from line stage s g (λ m. settled .same t m ∙ sym (same m)) (settled .hits ∙ h) (settled .job) (comes-beyond t from end place (r .next) far (settled .comes)) l
+
+-- at a stage by another name
+pub turns-at :
+    {r : Turn} {t : List ℕ} {from line : ℕ} {stage stage' : Stage} {s : Setup} {g : Progress} {before after : Lent} → stage' ≡ stage
+    → Turns r t from line stage s g before after → Turns r t from line stage' s g before after
+turns-at e h = rw e h

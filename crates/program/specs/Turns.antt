@@ -38,21 +38,21 @@ program stage s m g = record { stage = stage; setup = s; macros = m; progress = 
 abbrev pub at : Turn → Macros → Program
 at r m = program (r .stage) (r .setup) m (r .progress)
 
--- a block that has begun, in a line that ends at a place
+-- a block that has begun and is in its place, in a line that ends at a place
+abbrev pub carried : Judging → List ℕ → ℕ → ℕ → Block → Program → Out (Made Program)
+carried j t end line b p = carryOut j t (end + 1) line (lines (drop (end + 1) t)) b p
+
+-- a block that has begun, judged by its place
 unfoldable pub placed : Judging → List ℕ → ℕ → ℕ → Block → Program → Out (Made Program)
 unfolding carryOut lines
 placed j t end line b p = do
   _ ← need (inPlace (p .stage) b) 7 line
-  carryOut j t (end + 1) line (lines (drop (end + 1) t)) b p
+  carried j t end line b p
 
 -- the lines from a place on, the first with a number; the end of a line is a place between lines, since a blank line
 -- stands there
 abbrev pub linesFrom : Judging → List ℕ → ℕ → ℕ → Program → Out (Made Program)
 linesFrom j t at line p = runFrom j t at line (lines (drop at t)) p
-
--- the block, and then the lines behind it
-abbrev pub blockThen : Judging → List ℕ → ℕ → ℕ → Block → Program → Out (Made Program)
-blockThen j t end line b p = andThen (placed j t end line b p) (linesFrom j t end line)
 
 abbrev pub blockOf : Called → Block
 blockOf (Macro n) = Block.Call n
@@ -60,8 +60,8 @@ blockOf (Part c) = Block.Outside (Outside.Copy c)
 
 abbrev pub leftOf : Judging → List ℕ → Next → Program → Out (Made Program)
 leftOf j t (Line at line) p = linesFrom j t at line p
-leftOf j t (Run c end line) p = blockThen j t end line (blockOf c) p
-leftOf j t (Open n end line) p = blockThen j t end line (Block.Outside (Outside.Open n)) p
+leftOf j t (Run c end line) p = andThen (carried j t end line (blockOf c) p) (linesFrom j t end line)
+leftOf j t (Open n end line) p = andThen (carried j t end line (Block.Outside (Outside.Open n)) p) (linesFrom j t end line)
 leftOf j t (Refused number line) p = refused number line
 
 -- ---- Where it lies
@@ -116,7 +116,8 @@ pub record Turns (r : Turn) (t : List ℕ) (from line : ℕ) (stage : Stage) (s 
   pub job : r .setup .job ≡ s .job
   pub comes : Comes (Beyond t from) (r .next)
 
--- A block that runs stored bodies, while the program runs.
+-- A block that runs stored bodies, at whatever stage it is in its place.
 abbrev pub Runs : Outcome → List ℕ → Called → ℕ → Setup → Macros → Progress → Lent → Lent → Type 0
 Runs r t c line s m g before after =
-    (end : ℕ) → Ran hitsOfProgram (s .job) (r .status) (program Running s m (r .progress)) before after (g .hits) (placed (limits (s .job)) t end line (blockOf c) (program Running s m g))
+    (stage : Stage) (end : ℕ)
+    → Ran hitsOfProgram (s .job) (r .status) (program stage s m (r .progress)) before after (g .hits) (carried (limits (s .job)) t end line (blockOf c) (program stage s m g))

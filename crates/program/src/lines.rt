@@ -198,8 +198,16 @@ pub fn run_text(job: Job, list: &mut [i32], text: &[u8]) -> Advance
                 line = place;
             }
             Next::Open(number, end, place) => {
-                let opened =
-                    storing::open_body(list, text, number, end + 1, place, setup, macros, progress);
+                let opened = storing::open_body(
+                    list,
+                    text,
+                    number,
+                    end + 1,
+                    place,
+                    setup,
+                    macros,
+                    progress,
+                );
                 let status = opened.status;
                 if let Status::Refused(number, place) = status {
                     return Advance::refused(number, place, Program::fresh(job));

@@ -47,9 +47,7 @@ pub fn set_origin(
             let moved = setup.with_origin(sheet, offset, origin);
             Turn::running(moved, progress, Next::Line(end, line))
         }
-        Located::TooFar => {
-            Turn::running(setup, progress, Next::Refused(refusal::TOO_FAR, line))
-        }
+        Located::TooFar => { Turn::running(setup, progress, Next::Refused(refusal::TOO_FAR, line)) }
     }
 }
 

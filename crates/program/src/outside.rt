@@ -45,13 +45,7 @@ pub fn start(
 }
 
 // A block that stands only outside bodies, while the program runs, which has begun in a line that ends at a place.
-pub fn settle(
-    end: usize,
-    line: u64,
-    outside: Outside,
-    setup: Setup,
-    progress: Progress,
-) -> Turn
+pub fn settle(end: usize, line: u64, outside: Outside, setup: Setup, progress: Progress) -> Turn
     ensures { λ r. ⌜ Settles r end line (Block.Outside outside) Running setup progress ⌝ }
 {
     let sheet = setup.sheet;
@@ -67,7 +61,14 @@ pub fn settle(
             next: Next::Line(end, line),
         },
         Outside::Offset(axes) => {
-            origins::set_origin(end, line, sheet, origins::offset_by(axes, offset), setup, progress)
+            origins::set_origin(
+                end,
+                line,
+                sheet,
+                origins::offset_by(axes, offset),
+                setup,
+                progress,
+            )
         }
         Outside::Layout(layout) => {
             origins::set_origin(end, line, Sheet::LaidOut(layout), offset, setup, progress)

@@ -156,16 +156,8 @@ pub fn open_body(
             progress,
         };
     }
-    let ran = first_run(
-        list,
-        text,
-        number,
-        &text[start..end],
-        first,
-        setup,
-        macros,
-        progress,
-    );
+    let body = &text[start..end];
+    let ran = first_run(list, text, number, body, first, setup, macros, progress);
     let status = ran.status;
     let after = ran.progress;
     Opened {

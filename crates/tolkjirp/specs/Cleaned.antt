@@ -5,11 +5,11 @@ use lib.ListN.{length}
 use Rattle.aries.specs.Outcome.{Out, _>>=_}
 use Rattle.aries.specs.Text.{strayLine, withoutSpaces, lines}
 use Rattle.aries.specs.Hits.{Hit}
-use Rattle.aries.specs.Judging.{lent}
+use Rattle.aries.specs.Judging.{lending}
 use Rattle.aries.specs.Program.{noStray, perform}
 
 -- 2 looks at the whole text, and then its blocks are carried out
 abbrev pub afterCleaning : List ℕ → ℕ → Out (List Hit)
 afterCleaning text numbers = do
   _ ← noStray (strayLine 1 text)
-  perform (lent numbers) (withoutSpaces text) (length (lines text))
+  perform (lending numbers) (withoutSpaces text) (length (lines text))

@@ -1,5 +1,7 @@
 // The expander of ARIES punch code: from a program text to its list of hits.
 use aries::answer::Answer;
+use aries::job::Job;
+use aries::job::NUMBERS;
 use aries::refusal;
 use aries::setup::Stage;
 use aries::state::Status;
@@ -11,7 +13,7 @@ ghost use Prim.Native.Nat.{_+_, _-_, _*_, _≤_};
 ghost use lib.IntN.{pos};
 ghost use lib.ListN.{length, take, replicate};
 ghost use Rattle.aries.specs.Text.{lines, longest, withoutSpaces, strayLine};
-ghost use Rattle.aries.specs.Judging.{lent};
+ghost use Rattle.aries.specs.Judging.{lending};
 ghost use Rattle.aries.specs.Program.{isEnded, perform, expand};
 ghost use Rattle.tolkjirp.specs.Answers.{Answers};
 ghost use Rattle.tolkjirp.specs.Cleaned.{afterCleaning};
@@ -19,8 +21,10 @@ ghost use Rattle.tolkjirp.specs.Cleaned.{afterCleaning};
 // The most bytes a text may have.
 pub const LONGEST: usize = 60_000;
 
-// The most bytes of a short text: its buffer is small, since clearing the large one takes time.
+// The most bytes of a short text, and of a tiny one: their buffers are small, since clearing a large one takes time.
 const SHORT: usize = 4_096;
+
+const TINY: usize = 256;
 
 // Clears a list from a place on.
 fn clear_from(list: &mut [i32], from: usize)
@@ -46,19 +50,21 @@ fn refuse(list: &mut [i32], number: u8, line: u64) -> Answer
 fn is_ended(stage: Stage) -> bool
     ensures { λ r. ⌜ r ≡ isEnded stage ⌝ }
 {
-    if let Stage::Ended = stage {
-        true
-    } else {
-        false
+    match stage {
+        Stage::Fresh => false,
+        Stage::Running => false,
+        Stage::Storing => false,
+        Stage::Ended => true,
     }
 }
 
 // The blocks of a text without its spaces; whole is the text with them, whose last line a missing G50 is refused in.
 fn perform(list: &mut [i32], text: &[u8], whole: &[u8]) -> Answer
     requires { ⌜ length (now text) ≤ longest ⌝ }
-    ensures { λ r. ⌜ Answers r (now (list .exit)) (length (now (list .entry))) (perform (lent (length (now (list .entry)))) (now (text .entry)) (length (lines (now (whole .entry))))) ⌝ }
+    ensures { λ r. ⌜ Answers r (now (list .exit)) (length (now (list .entry))) (perform (lending (length (now (list .entry)))) (now (text .entry)) (length (lines (now (whole .entry))))) ⌝ }
 {
-    let run = run_text(list, text);
+    let job = Job::lending(list.len());
+    let run = run_text(job, list, text);
     let status = run.status;
     if let Status::Refused(number, line) = status {
         return refuse(list, number, line);
@@ -69,7 +75,7 @@ fn perform(list: &mut [i32], text: &[u8], whole: &[u8]) -> Answer
         return refuse(list, refusal::OUT_OF_PLACE, text::count_lines(whole));
     }
     let hits = left.progress.hits;
-    clear_from(list, hits * 4);
+    clear_from(list, hits * NUMBERS);
     Answer::Hits(hits)
 }
 
@@ -83,6 +89,15 @@ fn expand_through(text: &[u8], buffer: &mut [u8], list: &mut [i32]) -> Answer
         Cleaned::Stray(line) => refuse(list, refusal::STRAY_BYTE, line),
         Cleaned::Dense(n) => perform(list, &buffer[..n], text),
     }
+}
+
+// A tiny text, in a tiny buffer.
+fn expand_tiny(text: &[u8], list: &mut [i32]) -> Answer
+    requires { ⌜ length (now text) ≤ 256 ⌝ }
+    ensures { λ r. ⌜ Answers r (now (list .exit)) (length (now (list .entry))) (afterCleaning (now (text .entry)) (length (now (list .entry)))) ⌝ }
+{
+    let mut buffer = [0u8; TINY];
+    expand_through(text, &mut buffer, list)
 }
 
 // A short text, in a small buffer.
@@ -113,6 +128,9 @@ pub fn expand(text: &[u8], list: &mut [i32]) -> Answer
     }
     if LONGEST < text.len() {
         return refuse(list, refusal::TEXT_LENGTH, 0);
+    }
+    if text.len() <= TINY {
+        return expand_tiny(text, list);
     }
     if text.len() <= SHORT {
         return expand_short(text, list);

@@ -46,9 +46,11 @@ loop-again : tie.Need-loop-again Inv-loop μ-loop
 loop-again c =
     let m = c .before .before in
     let p = m .before .before .before in
-    let a = p .before .before .args in
-    (omega (arith, c .line-end .ensures), rw (c .line-end .ensures) (from-other (a .number) (a .text .now) (a .from) (p .loop .at) (m .before .before .loop-test .taken) (p .loop .inv .1)
-    (p .loop .inv .0) (sym (m .is-mark .ensures) ∙ c .before .if1 .left)))
+    let a = p .before .before .args in (
+      omega (arith, c .line-end .ensures),
+      rw (c .line-end .ensures) (from-other (a .number) (a .text .now) (a .from) (p .loop .at) (m .before .before .loop-test .taken) (p .loop .inv .1)
+          (p .loop .inv .0) (sym (m .is-mark .ensures) ∙ c .before .if1 .left)),
+    )
 
 returns-3 : tie.Need-returns-3 Inv-loop μ-loop
 returns-3 c =

@@ -65,6 +65,6 @@ open-body-spec =
     (λ c. omega (arith, inside c)) (λ c. search needs) (λ c. search needs) (λ c. omega (arith, inside c)) (λ c. omega (arith, inside c))
     (λ c κs. search needs) (λ c κs. search needs)
     returns-2
-    (λ c. search needs) (λ c. search needs) (λ c. omega (arith, inside (c .before .before .before .before)))
+    (λ c. search needs) (λ c. search needs) (λ c. omega (arith, inside (c .before .before .before)))
     (λ c κs. search needs) (λ c. search needs)
     returns-3)

@@ -11,11 +11,12 @@ use lib.ListN.{length, getD}
 use Rattle.aries.specs.declared.macros.Macros.{Macros}
 use Rattle.aries.specs.declared.state.Progress.{Progress}
 use Rattle.aries.specs.Judging.{limits, mostBlocks}
+use Rattle.aries.specs.Hits.{andThen}
 use Rattle.aries.specs.Test.{either}
 use Rattle.aries.specs.Text.{lineFeed}
 use Rattle.text.proofs.Lines.{blanks-inside, next-stop, line-inside, line-goes-on}
 use Rattle.decode.proofs.Decoding.{decoded-instruction}
-use Rattle.program.specs.Turns.{program, linesFrom, blockThen}
+use Rattle.program.specs.Turns.{program, placed, linesFrom}
 use Rattle.program.proofs.Placed.{not-storing}
 use Rattle.program.proofs.Turns.{turns-line, turns-refused, turns-settled}
 use Rattle.program.proofs.RunFrom.{skip, countedAt, block-spent, block-refused, block-begun}
@@ -129,7 +130,7 @@ returns-4 c =
     (λ m.
     skips (skipped e) m
     ∙ block-begun j t (start (skipped e)) (place (skipped e)) (a .stage) (a .setup) m (a .progress) (inside e) (other e) (not-storing (a .stage) (b .pre .1)) (may (d .before)) (i .0 .0) (i .0 .1 .0) q
-    ∙ ap (λ (g : Progress). blockThen j t (i .0 .1 .0) (place (skipped e)) (i .0 .0 .block) (program (a .stage) (a .setup) m g)) (sym (n .begun .ensures)))
+    ∙ ap (λ (g : Progress). andThen (placed j t (i .0 .1 .0) (place (skipped e)) (i .0 .0 .block) (program (a .stage) (a .setup) m g)) (linesFrom j t (i .0 .1 .0) (place (skipped e)))) (sym (n .begun .ensures)))
 
 pub run-alone-spec : {M : Type 1} → statement M
 run-alone-spec =
