@@ -4,6 +4,7 @@ pub mod Plates
 pub mod Points
 pub mod Counts
 pub mod Outcomes
+pub mod LineCounts
 pub mod Joined
 pub mod Lanes
 pub mod CopyPlaces
@@ -20,6 +21,9 @@ pub mod BothOrNeither
 -- What makes them theorems about programs.
 pub mod Kept
 pub mod CopyBlocks
+-- What is proved of refusals.
+pub mod Sound
+pub mod Refusals
 -- Laws that the functions' proofs cite.
 pub mod Advanced
 pub mod Carried

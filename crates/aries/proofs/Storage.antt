@@ -7,13 +7,13 @@ use native.Mathlib.Omega.{arith}
 use native.Mathlib.Numerals.{add-one}
 use borrow.Author.Tests.{lt-ltb, le-ltb}
 use lib.Dec.{ltb}
-use lib.ListN.{length, getD, drop, set, List·getD-eq-default, drop-of-length-le}
+use lib.ListN.{length, getD, drop, set, replicate, List·getD-eq-default, drop-of-length-le}
 use lib.Seq.{set-out, drop-cons}
 use Rattle.aries.specs.declared.macros.Macros.{Macros}
 use Rattle.aries.specs.declared.macros.Found.{Found}
 use Rattle.aries.specs.declared.macros.Found.the-variants.{Body, Nothing}
 use Rattle.aries.specs.Test.{pick}
-use Rattle.aries.specs.Macros.{foundIn, storing, sizes}
+use Rattle.aries.specs.Macros.{noMacros, foundIn, storing, sizes}
 
 -- ---- Finding a body
 
@@ -25,6 +25,15 @@ found-out m n h = found-none m n (List·getD-eq-default (m .line) 0 h)
 
 pub found-body : (m : Macros) (n : ℕ) → (getD (m .line) n 0 ≡ 0 → ⊥) → foundIn m n ≡ Body (getD (m .start) n 0) (getD (m .end) n 0) (getD (m .line) n 0)
 found-body m n h = simp (lt-ltb 0 (getD (m .line) n 0) (omega arith))
+
+-- an array of zeros
+zeros : (many n : ℕ) → _≡_ {A = ℕ} (getD (replicate many 0) n 0) 0
+zeros zero n = refl
+zeros (suc many) zero = refl
+zeros (suc many) (suc n) = zeros many n
+
+pub found-fresh : (n : ℕ) → foundIn noMacros n ≡ Nothing
+found-fresh n = found-none noMacros n (zeros 90 n)
 
 -- ---- Storing
 

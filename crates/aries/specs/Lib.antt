@@ -20,4 +20,5 @@ pub mod Program
 pub mod Runs
 pub mod CopyRuns
 pub mod CopyBlocks
+pub mod Refusals
 pub mod Plates

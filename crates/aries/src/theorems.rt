@@ -1,6 +1,7 @@
 ghost use Rattle.aries.specs.CopyRuns.{BothOrNeither, EqualExactlyWhen, LayoutSentence, ReferenceMoves};
 ghost use Rattle.aries.specs.CopyBlocks.{CopyLinesRun, ReachedOrdinary, OriginMoves};
 ghost use Rattle.aries.specs.Plates.{PlatesHold};
+ghost use Rattle.aries.specs.Refusals.{RefusalsNamed};
 
 // What is proved of the definitions alone. Each function does nothing; its contract is the theorem.
 
@@ -37,6 +38,11 @@ pub fn reached_ordinary()
 // so that moving the reference point moves the origin along.
 pub fn origin_moves()
     ensures { λ _. ⌜ OriginMoves ⌝ }
+{}
+
+// Demand 1: a refusal has a number from 1 to 17; its line is 0 exactly for 1, and else one of the text.
+pub fn refusals_named()
+    ensures { λ _. ⌜ RefusalsNamed ⌝ }
 {}
 
 // The plates of document 01, as rows of one list.

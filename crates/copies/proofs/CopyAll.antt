@@ -1,42 +1,41 @@
--- Laws of `copyAll`: one copy and the rest, the loop over the copies, and copies of a part without a block. Assumes nothing.
+-- Laws of `copyAll`: one copy and the rest, and copies of a part without a block.
 use mathlib.Core.Path.{_≡_, refl, sym, ap, subst, _∙_}
 use mathlib.Core.Bool.{Bool, true, false}
-use mathlib.Core.List.{List}
 use Prim.Native.Nat.{ℕ, zero, suc, _+_, _-_, _<_, _≤_}
 use native.Mathlib.Numerals.{add-one}
 use native.Mathlib.Omega.{arith}
 use borrow.Author.Tests.{ltb-true, ltb-false}
-use lib.Dec.{ltb}
-use lib.IntN.{ℤ}
+use lib.Dec.{T, ltb}
+use Rattle.aries.specs.declared.block.Copies.{Copies}
+use Rattle.aries.specs.declared.block.Layout.{Layout}
+use Rattle.aries.specs.declared.job.Job.{Job}
+use Rattle.aries.specs.declared.point.Located.the-variants.{At, TooFar}
 use Rattle.aries.specs.declared.point.Point.{Point}
 use Rattle.aries.specs.declared.state.Frame.{Frame}
 use Rattle.aries.specs.declared.state.Progress.{Progress}
 use Rattle.aries.specs.declared.state.State.{State}
-use Rattle.aries.specs.declared.state.Status.{Status}
-use Rattle.aries.specs.declared.state.Status.the-variants.{Passed, Refused}
 use Rattle.aries.specs.Outcome.{Out, refused}
 use Rattle.aries.specs.Hits.{Made, still, andThen}
-use Rattle.aries.specs.Judging.{Judging, lent, near}
-use Rattle.aries.specs.Layouts.{Part, copyStart, frameAt, copy, copyAll}
+use Rattle.aries.specs.Judging.{Judging, limits, near}
+use Rattle.aries.specs.Layouts.{Part, copyCount, copyPlace, copyStart, copy, copyAll}
 use Rattle.aries.specs.Moves.{withState}
-use Rattle.aries.specs.Runs.{Ran}
-use Rattle.aries.proofs.Runs.{still-then, ran-as, ran-refused, Leads, leads-as, leads-on, leads-out}
-use Rattle.copies.specs.Copying.{blankPart}
-
--- the hits counted by a progress
-abbrev pub hits : Progress → ℕ
-hits g = g .hits
+use Rattle.aries.specs.Setup.{frameAt}
+use Rattle.aries.proofs.Runs.{still-then}
+use Rattle.placing.specs.Places.{allNear, lastCopy}
+use Rattle.placing.proofs.AllNear.{all-near, some-far}
+use Rattle.placing.proofs.Located.{at-passed, far-failed}
+use Rattle.copies.specs.Copying.{blankPart, allCopies}
 
 -- ---- One copy
 
-module _ (numbers : ℕ) (part : Part) (f : Frame) (line : ℕ) (found : State) (p : Point) (g : Progress) where
+module _ (job : Job) (part : Part) (f : Frame) (line : ℕ) (found : State) (p : Point) (g : Progress) where
   -- a place too far away
-  pub copy-far : near p ≡ false → copy (lent numbers) part f line found p g ≡ refused 15 line
+  pub copy-far : near p ≡ false → copy (limits job) part f line found p g ≡ refused 15 line
   unfolding copy
   copy-far e = simp e
 
   -- a place near enough: the part is carried out there, from the state found
-  pub copy-near : near p ≡ true → copy (lent numbers) part f line found p g ≡ part (frameAt f p) (withState g (copyStart found p))
+  pub copy-near : near p ≡ true → copy (limits job) part f line found p g ≡ part (frameAt f p) (withState g (copyStart found p))
   unfolding copy
   copy-near e = simp e
 
@@ -58,90 +57,56 @@ module _ (j : Judging) (part : Part) (f : Frame) (line : ℕ) (found : State) (p
       let e : count - m ≡ 0 = omega arith in
       ap (λ (n : ℕ). copyAll j part f line found place n m g) e
 
--- ---- The loop over the copies
-
-module _
-    (numbers : ℕ) (part : Part) (f : Frame) (line : ℕ) (found : State) (place : ℕ → Point) (count m : ℕ) (g : Progress) (list list₀ : List ℤ) (k₀ : ℕ) (whole : Out (Made Progress))
-    (more : m < count) (lead : Leads hits list (g .hits) (copyAll (lent numbers) part f line found place (count - m) m g) list₀ k₀ whole) where
-  lead-copy : Leads hits list (g .hits) (andThen (copy (lent numbers) part f line found (place m) g) (copyAll (lent numbers) part f line found place (count - (m + 1)) (m + 1))) list₀ k₀ whole
-  lead-copy = leads-as hits list₀ k₀ whole list (g .hits) (copies-step (lent numbers) part f line found place count m g more) lead
-
-  -- the place of a copy is too far away
-  pub turn-far : near (place m) ≡ false → Ran hits (Refused 15 line) g list₀ list k₀ whole
-  turn-far e =
-      leads-out hits list₀ k₀ whole _ _ g list list (g .hits) 15 line
-      (ran-as hits (Refused 15 line) g list list (g .hits) (copy-far numbers part f line found (place m) g e) (ran-refused hits g list list (g .hits) 15 line))
-      lead-copy
-
-  module _
-      (p : Point) (begun left : Progress) (status : Status) (mid : List ℤ) (lies : p ≡ place m) (begins : begun ≡ withState g (copyStart found p)) (close : near (place m) ≡ true)
-      (ran : Ran hits status left list mid (begun .hits) (part (frameAt f p) begun)) where
-    ran-copy : Ran hits status left list mid (g .hits) (copy (lent numbers) part f line found (place m) g)
-    ran-copy =
-        ran-as hits status left list mid (g .hits) (copy-near numbers part f line found (place m) g close)
-        (subst (λ (q : Point). Ran hits status left list mid (g .hits) (part (frameAt f q) (withState g (copyStart found q)))) lies
-        (subst (λ (b : Progress). Ran hits status left list mid (b .hits) (part (frameAt f p) b)) begins ran))
-
-    -- a copy is refused
-    pub turn-refused : (number at : ℕ) → status ≡ Refused number at → Ran hits status left list₀ mid k₀ whole
-    turn-refused number at e = rw e (leads-out hits list₀ k₀ whole _ _ left list mid (g .hits) number at (rw e at ran-copy) lead-copy)
-
-    -- a copy passes
-    pub turn-passed : status ≡ Passed → Leads hits mid (left .hits) (copyAll (lent numbers) part f line found place (count - (m + 1)) (m + 1) left) list₀ k₀ whole
-    turn-passed e = leads-on hits list₀ k₀ whole _ _ left list mid (g .hits) (rw e at ran-copy) lead-copy
-
 -- ---- Copies of a part without a block
 
--- places near enough, and one more
-pub near-more : (place : ℕ → Point) (m : ℕ) → ((i : ℕ) → i < m → near (place i) ≡ true) → near (place m) ≡ true → (i : ℕ) → i < m + 1 → near (place i) ≡ true
-near-more place m before here i h = go (ltb i m) refl
-  where
-    go : (b : Bool) → ltb i m ≡ b → near (place i) ≡ true
-    go true e = before i (ltb-true i m e)
-    go false e =
-        let z : m ≡ i = omega (arith, ltb-false i m e) in
-        subst (λ (k : ℕ). near (place k) ≡ true) z here
+module _ (job : Job) (f : Frame) (line : ℕ) (found : State) (place : ℕ → Point) where
+  abbrev blanks : ℕ → ℕ → Progress → Out (Made Progress)
+  blanks n m g = copyAll (limits job) blankPart f line found place n m g
 
-module _ (numbers : ℕ) (f : Frame) (line : ℕ) (found : State) (place : ℕ → Point) where
   -- a place near enough, and the rest
-  blank-step : (n m : ℕ) (g : Progress) → near (place m) ≡ true
-      → copyAll (lent numbers) blankPart f line found place (suc n) m g
-      ≡ copyAll (lent numbers) blankPart f line found place n (suc m) (withState g (copyStart found (place m)))
+  blanks-step : (n m : ℕ) (g : Progress) → near (place m) ≡ true → blanks (suc n) m g ≡ blanks n (suc m) (withState g (copyStart found (place m)))
   unfolding copyAll
-  blank-step n m g e =
-      ap (λ (out : Out (Made Progress)). andThen out (copyAll (lent numbers) blankPart f line found place n (suc m))) (copy-near numbers blankPart f line found (place m) g e)
-      ∙ still-then (withState g (copyStart found (place m))) (copyAll (lent numbers) blankPart f line found place n (suc m))
+  blanks-step n m g e =
+      ap (λ (out : Out (Made Progress)). andThen out (blanks n (suc m))) (copy-near job blankPart f line found (place m) g e)
+      ∙ still-then (withState g (copyStart found (place m))) (blanks n (suc m))
 
-  -- the first place too far away, after d that are near enough
-  far-after : (d n m at : ℕ) (g : Progress) → d < n → at ≡ m + d → ((i : ℕ) → m ≤ i → i < at → near (place i) ≡ true) → near (place at) ≡ false
-      → copyAll (lent numbers) blankPart f line found place n m g ≡ refused 15 line
+  -- all places are near: the state is that of the last copy
+  blanks-near : (n m last : ℕ) (g : Progress) → last ≡ m + n → ((i : ℕ) → i ≤ last → near (place i) ≡ true) → blanks (suc n) m g ≡ still (withState g (copyStart found (place last)))
   unfolding copyAll
-  far-after d zero m at g h e before far = absurd (omega arith)
-  far-after zero (suc n) m at g h e before far =
-      let z : at ≡ m = omega arith in
-      ap (λ (out : Out (Made Progress)). andThen out (copyAll (lent numbers) blankPart f line found place n (suc m)))
-      (copy-far numbers blankPart f line found (place m) g (subst (λ (k : ℕ). near (place k) ≡ false) z far))
-  far-after (suc d) (suc n) m at g h e before far =
-      blank-step n m g (before m (omega arith) (omega arith))
-      ∙ far-after d n (suc m) at (withState g (copyStart found (place m))) (omega arith) (omega arith) (λ i a b. before i (omega arith) b) far
-
-  pub blank-far : (count m : ℕ) (g : Progress) → m < count → ((i : ℕ) → i < m → near (place i) ≡ true) → near (place m) ≡ false
-      → copyAll (lent numbers) blankPart f line found place count 0 g ≡ refused 15 line
-  blank-far count m g h before far = far-after m count 0 m g h (omega arith) (λ i a b. before i b) far
-
-  -- all places near enough: the state is that of the last copy
-  near-through : (n m last : ℕ) (g : Progress) → last ≡ m + n → ((i : ℕ) → m ≤ i → i ≤ last → near (place i) ≡ true)
-      → copyAll (lent numbers) blankPart f line found place (suc n) m g ≡ still (withState g (copyStart found (place last)))
-  unfolding copyAll
-  near-through zero m last g e all =
+  blanks-near zero m last g e all =
       let z : m ≡ last = omega arith in
-      blank-step 0 m g (all m (omega arith) (omega arith)) ∙ ap (λ (k : ℕ). still (withState g (copyStart found (place k)))) z
-  near-through (suc n) m last g e all =
-      blank-step (suc n) m g (all m (omega arith) (omega arith))
-      ∙ near-through n (suc m) last (withState g (copyStart found (place m))) (omega arith) (λ i h k. all i (omega arith) k)
+      blanks-step 0 m g (all m (omega arith)) ∙ ap (λ (k : ℕ). still (withState g (copyStart found (place k)))) z
+  blanks-near (suc n) m last g e all =
+      blanks-step (suc n) m g (all m (omega arith)) ∙ blanks-near n (suc m) last (withState g (copyStart found (place m))) (omega arith) all
 
-  pub blank-near : (count last : ℕ) (g : Progress) → count ≡ suc last → ((i : ℕ) → i < count → near (place i) ≡ true)
-      → copyAll (lent numbers) blankPart f line found place count 0 g ≡ still (withState g (copyStart found (place last)))
-  blank-near count last g e all =
-      ap (λ (n : ℕ). copyAll (lent numbers) blankPart f line found place n 0 g) e
-      ∙ near-through last 0 last g (omega arith) (λ i h k. all i (omega arith))
+  -- one is too far
+  blanks-far : (n m i : ℕ) (g : Progress) → m ≤ i → i < m + n → near (place i) ≡ false → blanks n m g ≡ refused 15 line
+  unfolding copyAll
+  blanks-far zero m i g h k far = absurd (omega arith)
+  blanks-far (suc n) m i g h k far = go (near (place m)) refl (λ later. blanks-far n (suc m) i (withState g (copyStart found (place m))) later (omega arith) far)
+    where
+      go : (t : Bool) → near (place m) ≡ t → (suc m ≤ i → blanks n (suc m) (withState g (copyStart found (place m))) ≡ refused 15 line) → blanks (suc n) m g ≡ refused 15 line
+      go false e rest = ap (λ (out : Out (Made Progress)). andThen out (blanks n (suc m))) (copy-far job blankPart f line found (place m) g e)
+      go true e rest = blanks-step n m g e ∙ rest (later (ltb m i) refl)
+        where
+          later : (t : Bool) → ltb m i ≡ t → suc m ≤ i
+          later true p = ltb-true m i p
+          later false p =
+              let z : m ≡ i = let q = ltb-false m i p in omega arith in
+              let y : true ≡ false = sym e ∙ ap (λ (k : ℕ). near (place k)) z ∙ far in
+              absurd (subst T y tt)
+
+module _ (f : Frame) (line : ℕ) (l : Layout) (c : Copies) (g : Progress) where
+  pub blank-passed : {p : Point} → lastCopy (f .origin) l c ≡ At p → allCopies (limits (f .job)) blankPart f line l c g ≡ still (withState g (copyStart (g .state) p))
+  blank-passed e =
+      let last = copyCount l - 1 in
+      let q = at-passed (allNear (f .origin) l) (copyPlace (f .origin) l c last) e in
+      let n : copyCount l ≡ suc last = omega arith in
+      ap (λ (k : ℕ). copyAll (limits (f .job)) blankPart f line (g .state) (copyPlace (f .origin) l c) k 0 g) n
+      ∙ blanks-near (f .job) f line (g .state) (copyPlace (f .origin) l c) last 0 last g (omega arith) (λ i h. all-near (f .origin) l c i (omega arith) (q .0))
+      ∙ ap (λ (p : Point). still (withState g (copyStart (g .state) p))) (sym (q .1))
+
+  pub blank-refused : lastCopy (f .origin) l c ≡ TooFar → allCopies (limits (f .job)) blankPart f line l c g ≡ refused 15 line
+  blank-refused e =
+      let q = some-far (f .origin) l c (far-failed (allNear (f .origin) l) (copyPlace (f .origin) l c (copyCount l - 1)) e) in
+      blanks-far (f .job) f line (g .state) (copyPlace (f .origin) l c) (copyCount l) 0 (q .0) g (omega arith) (omega arith) (q .2)

@@ -1,9 +1,8 @@
--- Laws of `copyPart`: one for each way through a G75 or G76 block. Assumes nothing.
-use mathlib.Core.Path.{_≡_, refl, sym, ap, subst, subst₂, fun-ext, _∙_}
-use mathlib.Core.Bool.{Bool, true, false}
+-- Laws of `copyPart`: one for each way through a G75 or G76 block, and the part from its first block on.
+use mathlib.Core.Path.{_≡_, sym, fun-ext, _∙_}
 use mathlib.Core.List.{List}
 use Prim.Native.Nat.{ℕ, _-_, _≤_}
-use lib.ListN.{length, getD, take, drop}
+use lib.ListN.{length}
 use Rattle.aries.specs.declared.block.Copies.{Copies}
 use Rattle.aries.specs.declared.block.Layout.{Layout}
 use Rattle.aries.specs.declared.macros.Found.the-variants.{Body, Nothing}
@@ -13,54 +12,41 @@ use Rattle.aries.specs.declared.setup.Sheet.the-variants.{Plain, LaidOut}
 use Rattle.aries.specs.declared.state.Progress.{Progress}
 use Rattle.aries.specs.Outcome.{refused}
 use Rattle.aries.specs.Judging.{Judging}
-use Rattle.aries.specs.Layouts.{Part, copyPlace, copyAll, partOf, copyOver, copyPart}
-use Rattle.aries.specs.Macros.{Within, foundIn, body, call, mostCalls, runBody}
-use Rattle.copies.specs.Copying.{bodyPart, openedPart, blankPart, allCopies}
+use Rattle.aries.specs.Layouts.{partOf, copyPart}
+use Rattle.aries.specs.Macros.{Bodies, foundIn, part, bodiesOf, call, mostCalls, runLines, runBody}
+use Rattle.aries.specs.Setup.{ordinaryFrame}
+use Rattle.text.proofs.Lines.{lines-past}
 use Rattle.bodies.specs.declared.Opening.{Opening}
 use Rattle.bodies.specs.Opening.{Opens}
-use Rattle.bodies.proofs.Running.{stored-by, missing-by, places, body-opened, lines-end}
+use Rattle.bodies.proofs.Calls.{body-opened}
+use Rattle.copies.specs.Copying.{bodyOf, openedPart, blankPart, allCopies}
 
 -- ---- The ways through a block
 
-module _ (j : Judging) (text : List ℕ) (s : Setup) (line : ℕ) (c : Copies) (g : Progress) where
-  pub part-missing : foundIn (s .macros) (c .part) ≡ Nothing → copyPart j text s line c g ≡ refused 10 line
-  unfolding copyPart
-  part-missing h = simp (missing-by (s .macros) (c .part) h)
+module _ (j : Judging) (text : List ℕ) (m : Macros) (s : Setup) (line : ℕ) (c : Copies) (g : Progress) where
+  pub part-missing : foundIn m (c .part) ≡ Nothing → copyPart j (bodiesOf text m) s line c g ≡ refused 10 line
+  unfolding copyPart bodiesOf
+  part-missing h = simp h
 
-  module _ (a e first : ℕ) (found : foundIn (s .macros) (c .part) ≡ Body a e first) where
-    pub part-plain : s .sheet ≡ Plain → copyPart j text s line c g ≡ refused 13 line
-    unfolding copyPart
-    part-plain h = simp (stored-by (s .macros) (c .part) a e first found, h)
+  module _ {start end first : ℕ} (found : foundIn m (c .part) ≡ Body start end first) where
+    pub part-plain : s .sheet ≡ Plain → copyPart j (bodiesOf text m) s line c g ≡ refused 13 line
+    unfolding copyPart bodiesOf
+    part-plain h = simp (found, h)
 
-    module _ (l : Layout) (laid : s .sheet ≡ LaidOut l) where
-      -- the part is the body found
-      part-found : partOf j text s (c .part) ≡ bodyPart j text (s .macros) first (take (e - a) (drop a text))
-      unfolding runBody body
-      part-found =
-          let q = places (s .macros) (c .part) a e first found in
-          ap (λ (n : ℕ). bodyPart j text (s .macros) n (body text (s .macros) (c .part))) (q .2)
-          ∙ ap (λ (n : ℕ). bodyPart j text (s .macros) first (take (n - getD (s .macros .start) (c .part) 0) (drop (getD (s .macros .start) (c .part) 0) text))) (q .1)
-          ∙ ap (λ (n : ℕ). bodyPart j text (s .macros) first (take (e - n) (drop n text))) (q .0)
+    pub part-copied : {l : Layout} → s .sheet ≡ LaidOut l
+        → copyPart j (bodiesOf text m) s line c g ≡ allCopies j (partOf j (bodiesOf text m) (bodyOf first (part text start end))) (ordinaryFrame s) line l c g
+    unfolding copyPart bodiesOf
+    part-copied h = simp (found, h)
 
-      laid-out : copyOver j text s line c (LaidOut l) g ≡ allCopies j (partOf j text s (c .part)) s line l c g
-      unfolding copyAll copyPlace runBody body
-      laid-out = refl
+-- ---- The part
 
-      pub part-copied : copyPart j text s line c g ≡ allCopies j (bodyPart j text (s .macros) first (take (e - a) (drop a text))) s line l c g
-      unfolding copyPart
-      part-copied =
-          simp (stored-by (s .macros) (c .part) a e first found, laid)
-          (laid-out ∙ ap (λ (part : Part). allCopies j part s line l c g) part-found)
+module _ (j : Judging) (bodies : Bodies) (first : ℕ) (body : List ℕ) (o : Opening) (opens : Opens body first o) where
+  -- from its first block on
+  pub part-opened : partOf j bodies (bodyOf first body) ≡ openedPart j bodies o body
+  unfolding runBody
+  part-opened = fun-ext (λ f. fun-ext (λ g. sym (body-opened j (call j bodies (mostCalls - 1)) f body first o g opens)))
 
-      -- from its first block on
-      pub part-opened : (o : Opening) → Opens (take (e - a) (drop a text)) first o → copyPart j text s line c g ≡ allCopies j (openedPart j text (s .macros) o (take (e - a) (drop a text))) s line l c g
-      part-opened o h =
-          part-copied
-          ∙ ap (λ (part : Part). allCopies j part s line l c g) (fun-ext (λ f. fun-ext (λ r. sym (body-opened j text (s .macros) (mostCalls - 1) f (take (e - a) (drop a text)) first o r h))))
-
-      -- a part without a block
-      pub part-blank : (o : Opening) → Opens (take (e - a) (drop a text)) first o → length (take (e - a) (drop a text)) ≤ o .at
-          → copyPart j text s line c g ≡ allCopies j blankPart s line l c g
-      part-blank o h b =
-          part-opened o h
-          ∙ ap (λ (part : Part). allCopies j part s line l c g) (fun-ext (λ f. fun-ext (λ r. lines-end j (call j text (s .macros) f (mostCalls - 1)) f (take (e - a) (drop a text)) (o .at) (o .line) r b)))
+  -- without a block
+  pub part-blank : length body ≤ o .at → partOf j bodies (bodyOf first body) ≡ blankPart
+  unfolding runLines
+  part-blank h = part-opened ∙ fun-ext (λ f. fun-ext (λ g. rw (lines-past body (o .at) h)))

@@ -1,4 +1,2 @@
 pub mod CopyAll
 pub mod CopyPart
-pub mod CopyPlace
-pub mod Resuming

@@ -1,6 +1,6 @@
 -- Laws of a series of hits: what holds before each hit, at the start, after a hit, at a refusal and at the end. The loop of
 -- each kind of pattern has it as its invariant.
-use mathlib.Core.Path.{_≡_, refl, sym, ap, _∙_}
+use mathlib.Core.Path.{_≡_, refl, ap}
 use Prim.Native.Nat.{ℕ, zero, suc, _+_, _-_, _≤_, _<_}
 use native.Mathlib.Nat.{sub-zero}
 use native.Mathlib.Omega.{arith}
@@ -10,11 +10,11 @@ use Rattle.aries.specs.declared.block.Pattern.the-variants.{Line, Arc, Circle, 
 use Rattle.aries.specs.declared.job.Job.{Job}
 use Rattle.aries.specs.declared.state.Frame.{Frame}
 use Rattle.aries.specs.declared.state.Progress.{Progress}
-use Rattle.aries.specs.declared.state.Status.the-variants.{Passed, Refused}
-use Rattle.patterns.specs.declared.series.Punch.{Punch}
+use Rattle.aries.specs.declared.state.Status.the-variants.{Refused}
+use Rattle.patterns.specs.declared.series.Tooling.{Tooling}
 use Rattle.patterns.specs.declared.series.Reached.{Reached}
 use Rattle.aries.specs.Outcome.{Out, done, refused}
-use Rattle.aries.specs.Hits.{Made, still, andThen, leaving}
+use Rattle.aries.specs.Hits.{Made, andThen, leaving}
 use Rattle.aries.specs.Judging.{limits}
 use Rattle.aries.specs.Moves.{_⊕_, punch}
 use Rattle.aries.specs.Patterns.{hole, holes, punches, ending}
@@ -43,16 +43,20 @@ status-refused (suc n) line h = refl
 -- what a series of hits starts from
 pub record Series : Type 0 where
   pub frame : Frame
-  pub with : Punch
+  pub tooling : Tooling
   pub pattern : Pattern
   pub start : Point
   pub hits : ℕ
   pub before : Lent
   pub count : ℕ
 
+abbrev pub seriesOf : Frame → Tooling → Pattern → Point → ℕ → Lent → ℕ → Series
+seriesOf f tooling p start hits before count =
+    record { frame = f; tooling = tooling; pattern = p; start = start; hits = hits; before = before; count = count }
+
 -- what it comes to
 abbrev pub Ends : Series → Reached → Lent → Type 0
-Ends s r after = Comes r (s .frame) (s .with) (s .start) (s .hits) (s .before) after (series (s .frame) (s .pattern) (s .start))
+Ends s r after = Comes r (s .frame) (s .tooling) (s .start) (s .hits) (s .before) after (series (s .frame) (s .pattern) (s .start))
 
 module _ (s : Series) where
   -- so many hits from hit k on, at a line
@@ -60,28 +64,28 @@ module _ (s : Series) where
   left line n k g = punches (limits (s .frame .job)) (s .frame) line (s .pattern) (s .start) n k g
 
   abbrev all : ℕ → Progress → Out (Made Progress)
-  all line g = left line (s .count) 0 (come g (s .with) (s .start) (s .hits))
+  all line g = left line (s .count) 0 (come g (s .tooling) (s .start) (s .hits))
 
   abbrev reached : Reached → Progress → Progress
-  reached made g = come g (s .with) (made .current) (made .hits)
+  reached made g = come g (s .tooling) (made .current) (made .hits)
 
   abbrev hitAt : Point → ℕ → Progress → Out (Made Progress)
   hitAt place line g = punch (limits (s .frame .job)) (s .frame) line place g
 
   -- no hit was refused, and whoever makes the hits from hit k on from here has made all
-  pub record Under (now : Lent) (made : Reached) (k : ℕ) : Type 0 where
+  pub record UnderWay (now : Lent) (made : Reached) (k : ℕ) : Type 0 where
     pub inside : k ≤ s .count
     pub passed : made .number ≡ 0
     pub leads : (line : ℕ) (g : Progress)
         → Leads hitsMade (s .frame .job) now (made .hits) (left line (s .count - k) k (reached made g)) (s .before) (s .hits) (all line g)
 
   -- at the start
-  pub under-start : Under (s .before) (record { number = 0; current = s .start; hits = s .hits }) 0
+  pub under-start : UnderWay (s .before) (record { number = 0; current = s .start; hits = s .hits }) 0
   under-start =
       record {
         inside = omega arith;
         passed = refl;
-        leads = λ line g. leads-start (ap (λ (n : ℕ). left line n 0 (come g (s .with) (s .start) (s .hits))) (sub-zero (s .count)));
+        leads = λ line g. leads-start (ap (λ (n : ℕ). left line n 0 (come g (s .tooling) (s .start) (s .hits))) (sub-zero (s .count)));
       }
 
   -- hit k, and then what is left
@@ -93,10 +97,10 @@ module _ (s : Series) where
       let f : suc k ≡ k + 1 = omega arith in
       rw (e, is) (ap (λ (n : ℕ). andThen (hitAt (s .start ⊕ hole (s .pattern) k) line g) (left line (s .count - (k + 1)) n)) f)
 
-  module _ {now next : Lent} {made : Reached} {k : ℕ} {place : Point} (under : Under now made k) (more : k < s .count) (is : place ≡ s .start ⊕ hole (s .pattern) k)
-      (r : Reached) (comes : Comes r (s .frame) (s .with) (made .current) (made .hits) now next (hitAt place)) where
+  module _ {now next : Lent} {made : Reached} {k : ℕ} {place : Point} (under : UnderWay now made k) (more : k < s .count) (is : place ≡ s .start ⊕ hole (s .pattern) k)
+      (r : Reached) (comes : Comes r (s .frame) (s .tooling) (made .current) (made .hits) now next (hitAt place)) where
     -- a hit that is made
-    pub under-next : r .number ≡ 0 → Under next r (k + 1)
+    pub under-next : r .number ≡ 0 → UnderWay next r (k + 1)
     under-next none =
         record {
           inside = omega arith;
@@ -115,7 +119,7 @@ module _ (s : Series) where
         (leads-as (turn k place more is line (reached made g)) (under .leads line g))))
 
   -- at the end
-  pub under-end : {now : Lent} {made : Reached} {k : ℕ} (r : Reached) → Under now made k → s .count ≤ k → s .count ≡ holes (s .pattern) → r .number ≡ 0
+  pub under-end : {now : Lent} {made : Reached} {k : ℕ} (r : Reached) → UnderWay now made k → s .count ≤ k → s .count ≡ holes (s .pattern) → r .number ≡ 0
       → ((g : Progress) → reached r g ≡ ending (s .pattern) (s .start) (reached made g)) → Ends s r now
   unfolding punches
   under-end {made = made} {k} r under past same none ends line g =

@@ -1,5 +1,4 @@
 -- A series of hits by what it depends on alone: where it starts, what its hits are made with and how many came before.
-use mathlib.Core.Bool.{Bool}
 use Prim.Native.Nat.{ℕ, zero, suc}
 use Rattle.aries.specs.declared.point.Point.{Point}
 use Rattle.aries.specs.declared.block.Pattern.{Pattern}
@@ -7,7 +6,7 @@ use Rattle.aries.specs.declared.state.Frame.{Frame}
 use Rattle.aries.specs.declared.state.Progress.{Progress}
 use Rattle.aries.specs.declared.state.Status.{Status}
 use Rattle.aries.specs.declared.state.Status.the-variants.{Passed, Refused}
-use Rattle.patterns.specs.declared.series.Punch.{Punch}
+use Rattle.patterns.specs.declared.series.Tooling.{Tooling}
 use Rattle.patterns.specs.declared.series.Reached.{Reached}
 use Rattle.aries.specs.Outcome.{Out}
 use Rattle.aries.specs.Hits.{Made, leaving}
@@ -16,16 +15,16 @@ use Rattle.aries.specs.Patterns.{holes, punches, ending}
 use Rattle.aries.specs.Runs.{Lent, hitsMade, Ran}
 
 -- a progress with this tool and mode that has come to a point, with so many hits
-abbrev pub come : Progress → Punch → Point → ℕ → Progress
-come g with p hits =
+abbrev pub come : Progress → Tooling → Point → ℕ → Progress
+come g tooling p hits =
     record {
       state =
           record {
             current = p;
             waiting = g .state .waiting;
             incremental = g .state .incremental;
-            nibble = with .nibble;
-            tool = with .tool;
+            nibble = tooling .nibble;
+            tool = tooling .tool;
             memories = g .state .memories;
           };
       blocks = g .blocks;
@@ -39,9 +38,9 @@ statusAt (suc n) line = Refused (suc n) line
 
 -- What was reached from a point on, after so many hits, is what something comes to, whatever the line and all else of a
 -- progress.
-abbrev pub Comes : Reached → Frame → Punch → Point → ℕ → Lent → Lent → (ℕ → Progress → Out (Made Progress)) → Type 0
-Comes r f with from hits before after what =
-    (line : ℕ) (g : Progress) → Ran hitsMade (f .job) (statusAt (r .number) line) (come g with (r .current) (r .hits)) before after hits (what line (come g with from hits))
+abbrev pub Comes : Reached → Frame → Tooling → Point → ℕ → Lent → Lent → (ℕ → Progress → Out (Made Progress)) → Type 0
+Comes r f tooling from hits before after what =
+    (line : ℕ) (g : Progress) → Ran hitsMade (f .job) (statusAt (r .number) line) (come g tooling (r .current) (r .hits)) before after hits (what line (come g tooling from hits))
 
 -- the hits of a pattern in turn, and its end
 abbrev pub series : Frame → Pattern → Point → ℕ → Progress → Out (Made Progress)

@@ -1,5 +1,5 @@
 // Patterns: where their hits lie, and carrying them out; pattern memory.
-pub mod places; // where the hits lie
+mod places; // where the hits lie
 pub mod runs; // carrying a pattern out, and pattern memory
-pub mod series; // the hits of each kind of pattern, in turn
-pub mod sizes; // how many hits a grid has and how far a pattern reaches
+mod series; // the hits of each kind of pattern, in turn
+mod sizes; // how many hits a grid has and how far a pattern reaches

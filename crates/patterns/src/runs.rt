@@ -1,5 +1,5 @@
 use crate::series;
-use crate::series::Punch;
+use crate::series::Tooling;
 use crate::sizes;
 use aries::block::Pattern;
 use aries::refusal;
@@ -40,11 +40,11 @@ fn carry_out(
     }
     let state = progress.state;
     let start = state.start();
-    let with = Punch {
+    let tooling = Tooling {
         tool: state.tool,
         nibble: state.nibble,
     };
-    let made = series::punch_series(list, frame, with, start, progress.hits, pattern);
+    let made = series::punch_series(list, frame, tooling, start, progress.hits, pattern);
     let end = made.current;
     let dropped = state.dropping();
     Outcome {

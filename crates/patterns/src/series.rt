@@ -19,8 +19,8 @@ ghost use Rattle.aries.specs.Places.{pointOf};
 ghost use Rattle.aries.specs.Runs.{lent};
 ghost use Rattle.patterns.specs.Series.{Comes, series};
 
-// What hits are made with.
-pub struct Punch {
+// What hits are made with: a tool, in mode N (nibble) or P.
+pub struct Tooling {
     pub tool: u8,
     pub nibble: bool,
 }
@@ -33,12 +33,18 @@ pub struct Reached {
 }
 
 // One hit more, or its refusal.
-fn punch_next(list: &mut [i32], frame: Frame, with: Punch, place: Place, from: Reached) -> Reached
-    ensures { λ r. ⌜ Comes r frame with (from .current) (from .hits) (lent (now (list .entry))) (lent (now (list .exit))) (λ line. punch (limits (frame .job)) frame line (pointOf place)) ⌝ }
+fn punch_next(
+    list: &mut [i32],
+    frame: Frame,
+    tooling: Tooling,
+    place: Place,
+    from: Reached,
+) -> Reached
+    ensures { λ r. ⌜ Comes r frame tooling (from .current) (from .hits) (lent (now (list .entry))) (lent (now (list .exit))) (λ line. punch (limits (frame .job)) frame line (pointOf place)) ⌝ }
 {
     let hits = from.hits;
     let current = from.current;
-    let judged = hits::hit(list, frame, place, with.tool, with.nibble, hits);
+    let judged = hits::hit(list, frame, place, tooling.tool, tooling.nibble, hits);
     match judged {
         Judged::Refused(number) => Reached {
             number,
@@ -57,7 +63,7 @@ fn punch_next(list: &mut [i32], frame: Frame, with: Punch, place: Place, from: R
 fn punch_line(
     list: &mut [i32],
     frame: Frame,
-    with: Punch,
+    tooling: Tooling,
     start: Point,
     hits: usize,
     pitch: i32,
@@ -65,7 +71,7 @@ fn punch_line(
     count: u16,
 ) -> Reached
     requires { ⌜ isNear (pos count *ℤ pitch) ≡ true ⌝ }
-    ensures { λ r. ⌜ Comes r frame with start hits (lent (now (list .entry))) (lent (now (list .exit))) (series frame (Line pitch angle count) start) ⌝ }
+    ensures { λ r. ⌜ Comes r frame tooling start hits (lent (now (list .entry))) (lent (now (list .exit))) (series frame (Line pitch angle count) start) ⌝ }
 {
     let direction = places::line_direction(angle);
     let mut made = Reached {
@@ -77,7 +83,7 @@ fn punch_line(
     while k < count {
         k += 1;
         let place = places::line_place(start, pitch, direction, k);
-        made = punch_next(list, frame, with, place, made);
+        made = punch_next(list, frame, tooling, place, made);
         if 0 < made.number {
             return made;
         }
@@ -89,7 +95,7 @@ fn punch_line(
 fn punch_arc(
     list: &mut [i32],
     frame: Frame,
-    with: Punch,
+    tooling: Tooling,
     start: Point,
     hits: usize,
     radius: i32,
@@ -97,7 +103,7 @@ fn punch_arc(
     step: i32,
     count: u16,
 ) -> Reached
-    ensures { λ r. ⌜ Comes r frame with start hits (lent (now (list .entry))) (lent (now (list .exit))) (series frame (Arc radius angle step count) start) ⌝ }
+    ensures { λ r. ⌜ Comes r frame tooling start hits (lent (now (list .entry))) (lent (now (list .exit))) (series frame (Arc radius angle step count) start) ⌝ }
 {
     let degrees = sine::degree_sines();
     let sines = sine::hundredth_sines();
@@ -111,7 +117,7 @@ fn punch_arc(
     while k < count {
         let turned = signed::affine(angle, k, step);
         let place = places::arc_place(start, radius, turned, &degrees, &sines, &cosines);
-        made = punch_next(list, frame, with, place, made);
+        made = punch_next(list, frame, tooling, place, made);
         if 0 < made.number {
             return made;
         }
@@ -124,7 +130,7 @@ fn punch_arc(
 fn punch_circle(
     list: &mut [i32],
     frame: Frame,
-    with: Punch,
+    tooling: Tooling,
     start: Point,
     hits: usize,
     radius: i32,
@@ -132,7 +138,7 @@ fn punch_circle(
     clockwise: bool,
     count: u16,
 ) -> Reached
-    ensures { λ r. ⌜ Comes r frame with start hits (lent (now (list .entry))) (lent (now (list .exit))) (series frame (Circle radius angle clockwise count) start) ⌝ }
+    ensures { λ r. ⌜ Comes r frame tooling start hits (lent (now (list .entry))) (lent (now (list .exit))) (series frame (Circle radius angle clockwise count) start) ⌝ }
 {
     let degrees = sine::degree_sines();
     let sines = sine::hundredth_sines();
@@ -146,7 +152,7 @@ fn punch_circle(
     while k < count {
         let turned = places::circle_angle(angle, clockwise, count, k);
         let place = places::arc_place(start, radius, turned, &degrees, &sines, &cosines);
-        made = punch_next(list, frame, with, place, made);
+        made = punch_next(list, frame, tooling, place, made);
         if 0 < made.number {
             return made;
         }
@@ -160,14 +166,14 @@ fn punch_circle(
 fn punch_grid(
     list: &mut [i32],
     frame: Frame,
-    with: Punch,
+    tooling: Tooling,
     start: Point,
     hits: usize,
     vertical: bool,
     pitch: Point,
     steps: Steps,
 ) -> Reached
-    ensures { λ r. ⌜ Comes r frame with start hits (lent (now (list .entry))) (lent (now (list .exit))) (series frame (Grid vertical pitch steps) start) ⌝ }
+    ensures { λ r. ⌜ Comes r frame tooling start hits (lent (now (list .entry))) (lent (now (list .exit))) (series frame (Grid vertical pitch steps) start) ⌝ }
 {
     let count = sizes::grid_holes(steps);
     let last = sizes::lane_end(vertical, steps);
@@ -181,7 +187,7 @@ fn punch_grid(
     while k < count {
         cursor = cursor.next(last);
         let place = places::grid_place(start, vertical, pitch, steps, cursor);
-        made = punch_next(list, frame, with, place, made);
+        made = punch_next(list, frame, tooling, place, made);
         if 0 < made.number {
             return made;
         }
@@ -194,26 +200,36 @@ fn punch_grid(
 pub fn punch_series(
     list: &mut [i32],
     frame: Frame,
-    with: Punch,
+    tooling: Tooling,
     start: Point,
     hits: usize,
     pattern: Pattern,
 ) -> Reached
     requires { ⌜ reaches pattern ≡ true ⌝ }
-    ensures { λ r. ⌜ Comes r frame with start hits (lent (now (list .entry))) (lent (now (list .exit))) (series frame pattern start) ⌝ }
+    ensures { λ r. ⌜ Comes r frame tooling start hits (lent (now (list .entry))) (lent (now (list .exit))) (series frame pattern start) ⌝ }
 {
     match pattern {
         Pattern::Line {
             pitch,
             angle,
             count,
-        } => punch_line(list, frame, with, start, hits, pitch, angle, count),
+        } => punch_line(list, frame, tooling, start, hits, pitch, angle, count),
         Pattern::Arc {
             radius,
             angle,
             step,
             count,
-        } => punch_arc(list, frame, with, start, hits, radius, angle, step, count),
+        } => punch_arc(
+            list,
+            frame,
+            tooling,
+            start,
+            hits,
+            radius,
+            angle,
+            step,
+            count,
+        ),
         Pattern::Circle {
             radius,
             angle,
@@ -222,7 +238,7 @@ pub fn punch_series(
         } => punch_circle(
             list,
             frame,
-            with,
+            tooling,
             start,
             hits,
             radius,
@@ -234,6 +250,6 @@ pub fn punch_series(
             vertical,
             pitch,
             steps,
-        } => punch_grid(list, frame, with, start, hits, vertical, pitch, steps),
+        } => punch_grid(list, frame, tooling, start, hits, vertical, pitch, steps),
     }
 }

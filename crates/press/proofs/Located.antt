@@ -1,10 +1,9 @@
 -- Laws of `located`: what 15 made of a point, by the answer.
-use mathlib.Core.Path.{_≡_, refl, sym}
+use mathlib.Core.Path.{_≡_, refl}
 use mathlib.Core.Bool.{Bool, true, false}
 use Prim.Native.Nat.{ℕ}
 use native.Mathlib.Omega.{arith}
 use Rattle.aries.specs.declared.point.Point.{Point}
-use Rattle.aries.specs.declared.point.Located.{Located}
 use Rattle.aries.specs.declared.point.Located.the-variants.{At, TooFar}
 use Rattle.aries.specs.Test.{pick}
 use Rattle.aries.specs.Judging.{near}

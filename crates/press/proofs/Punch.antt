@@ -1,8 +1,7 @@
 -- Laws of a hit: `punch` by what is judged of it, and what has been carried out with it.
 use mathlib.Core.Path.{_≡_, refl, sym, ap, _∙_}
 use mathlib.Core.Bool.{Bool, true, false}
-use mathlib.Core.Option.{some}
-use Prim.Native.Nat.{ℕ, _+_, _≤_, _<_}
+use Prim.Native.Nat.{ℕ, _<_}
 use native.Mathlib.Omega.{arith}
 use lib.Dec.{ltb}
 use borrow.Author.Tests.{ltb-true}
@@ -14,7 +13,7 @@ use Rattle.press.specs.declared.hits.Judged.{Judged}
 use Rattle.press.specs.declared.hits.Judged.the-variants.{Made, Refused}
 use Rattle.aries.specs.Outcome.{Out, done, refused, _>>=_, need}
 use Rattle.aries.specs.Test.{pick}
-use Rattle.aries.specs.Judging.{limits, room, near}
+use Rattle.aries.specs.Judging.{limits, near}
 use Rattle.aries.specs.Machine.{inRange}
 use Rattle.aries.specs.Hits as Hits
 use Rattle.aries.specs.Moves.{hitting, punch}

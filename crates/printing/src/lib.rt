@@ -12,7 +12,7 @@ ghost use Prim.Native.Nat.{suc, _*_, _≤_};
 ghost use lib.ListN.{length};
 ghost use Rattle.aries.specs.Program.{countOf};
 ghost use Rattle.printing.specs.Buffers.{Put, Ends};
-ghost use Rattle.printing.specs.Examples.{Examples};
+ghost use Rattle.printing.specs.Examples.{Examples, PlatePrinted};
 ghost use Rattle.printing.specs.Listing.{hitLines, listing, longestLine};
 
 // The lines of the first hits, at the end of the buffer.
@@ -45,7 +45,12 @@ pub fn render(out: &mut [u8], list: &[i32], answer: Answer) -> usize
     }
 }
 
-// The definition prints what document 01 does.
+// M1 of document 01, from its text to its listing.
+pub fn plate_printed()
+    ensures { λ _. ⌜ PlatePrinted ⌝ }
+{}
+
+// Other listings.
 pub fn examples_hold()
     ensures { λ _. ⌜ Examples ⌝ }
 {}

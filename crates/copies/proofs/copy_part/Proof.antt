@@ -1,35 +1,31 @@
 -- One law of `copyPart` for each way out. Assumes nothing.
 use borrow.Author.Needs.{needs}
-use mathlib.Core.Path.{_≡_, refl, sym, _∙_}
-use mathlib.Core.List.{List}
-use Prim.Native.Nat.{ℕ, _≤_, _-_}
+use mathlib.Core.Path.{_≡_, sym, ap, ap₂, _∙_}
+use Prim.Native.Nat.{ℕ, _-_, _≤_}
 use native.Mathlib.Omega.{arith}
-use lib.ListN.{length, take, drop, length-take, length-drop}
+use lib.ListN.{length, take, drop}
 use Rattle.aries.specs.declared.macros.Found.the-variants.{Body}
-use Rattle.aries.specs.Judging.{lent}
-use Rattle.aries.specs.Macros.{foundIn}
-use Rattle.aries.proofs.Runs.{ran-as}
+use Rattle.aries.specs.Judging.{limits}
+use Rattle.aries.specs.Layouts.{copyPart}
+use Rattle.aries.specs.Macros.{foundIn, bodiesOf}
+use Rattle.aries.specs.Setup.{ordinaryFrame}
 use Rattle.aries.proofs.Carried.{carried-refused}
-use Rattle.copies.proofs.CopyAll.{hits}
-use Rattle.copies.proofs.CopyPart.{part-missing, part-plain, part-opened, part-blank}
-use Rattle.bodies.proofs.Running.{body-within}
+use Rattle.bodies.proofs.Calls.{clipped, clipped-within, part-clipped}
+use Rattle.copies.proofs.CopyPart.{part-missing, part-plain, part-copied}
 use Rattle.copies.proofs.copy_part.Statement.{statement}
 use Rattle.copies.proofs.copy_part.Tie as tie
 
--- the body that was found, and that it lies within the text
-is-found : (c : tie.After-found) → let a = c .before .before .before .before .before .args in let x = c .found .given .0 in
-    foundIn (a .setup .macros) (a .copies .part) ≡ Body (x .0) (x .1 .0) (x .1 .1 .0)
+-- the body that was found
+is-found : (c : tie.After-found) → let a = c .before .before .before .before .args in let x = c .found .given .0 in
+    foundIn (a .macros) (a .copies .part) ≡ Body (x .0) (x .1 .0) (x .1 .1 .0)
 is-found c = sym (c .before .before .find .ensures) ∙ c .found .given .1
 
-inside : (c : tie.After-found) → let a = c .before .before .before .before .before .args in let x = c .found .given .0 in
-    (x .0 ≤ x .1 .0) × (x .1 .0 ≤ length (a .text .now))
-inside c =
-    let a = c .before .before .before .before .before in
-    body-within (a .args .setup .macros) (length (a .args .text .now)) (a .args .copies .part) _ _ _ (a .pre) (is-found c)
+-- the same, and what was handed in, where the ends are clipped
+abbrev found : tie.After-clip → tie.After-found
+found c = c .before .before .before .before .before
 
--- the body is as long as its places are apart
-body-length : (t : List ℕ) (a e : ℕ) {n : ℕ} → e ≤ length t → e - a ≤ n → length (take (e - a) (drop a t)) ≤ n
-body-length t a e h k = simp (length-take, length-drop) (omega arith)
+abbrev entry : tie.After-clip → tie.Start
+entry c = found c .before .before .before .before
 
 find-requires : tie.Need-find-requires
 find-requires c κs = search needs
@@ -45,11 +41,10 @@ refused-requires c κs = search needs
 
 returns : tie.Need-returns
 returns c =
-    let a = c .before .before .before .before .before .before .args in
-    let l = a .list .now in
-    ran-as hits (c .refused .result .status) (c .refused .result .progress) l l (a .progress .hits)
-    (part-missing (lent (length l)) (a .text .now) (a .setup) (a .line) (a .copies) (a .progress) (sym (c .before .before .before .find .ensures) ∙ c .before .enum-told .given .1))
-    (carried-refused (c .refused .result) (a .progress) l l (a .progress .hits) 10 (a .line) _ (c .refused .ensures) refl)
+    let d = c .before .before .before in
+    let a = d .before .before .args in
+    carried-refused (ordinaryFrame (a .setup)) (λ j. copyPart j (bodiesOf (a .text .now) (a .macros)) (a .setup) (a .line) (a .copies)) (c .refused .ensures)
+    (part-missing (limits (a .setup .job)) (a .text .now) (a .macros) (a .setup) (a .line) (a .copies) (a .progress) (sym (d .find .ensures) ∙ c .before .enum-told .given .1))
 
 enum-known-sheet : tie.Need-enum-known-sheet
 enum-known-sheet c = search needs
@@ -58,64 +53,57 @@ enum-told-2 : tie.Need-enum-told-2
 enum-told-2 c = search needs
 
 refused-requires-2 : tie.Need-refused-requires-2
-refused-requires-2 c = search needs
+refused-requires-2 c κs = search needs
 
 returns-2 : tie.Need-returns-2
 returns-2 c =
-    let a = c .before .before .before .before .before .before .before .before .before .args in
-    let l = a .list .now in
-    ran-as hits (c .refused2 .result .status) (c .refused2 .result .progress) l l (a .progress .hits)
-    (part-plain (lent (length l)) (a .text .now) (a .setup) (a .line) (a .copies) (a .progress) _ _ _ (is-found (c .before .before .before .before)) (c .before .enum-told2 .given .1))
-    (carried-refused (c .refused2 .result) (a .progress) l l (a .progress .hits) 13 (a .line) _ (c .refused2 .ensures) refl)
+    let k = c .before .before .before .before in
+    let a = k .before .before .before .before .args in
+    carried-refused (ordinaryFrame (a .setup)) (λ j. copyPart j (bodiesOf (a .text .now) (a .macros)) (a .setup) (a .line) (a .copies)) (c .refused2 .ensures)
+    (part-plain (limits (a .setup .job)) (a .text .now) (a .macros) (a .setup) (a .line) (a .copies) (a .progress) (is-found k) (c .before .enum-told2 .given .1))
 
-sub-first-block : tie.Need-sub-first-block
-sub-first-block c = inside (c .before .before .before .before) .0
+clip-requires : tie.Need-clip-requires
+clip-requires c κs = search needs
 
-part-first-block-start : tie.Need-part-first-block-start
-part-first-block-start c = inside (c .before .before .before .before) .0
+clip-requires-2 : tie.Need-clip-requires-2
+clip-requires-2 c κs = search needs
 
-part-first-block-end : tie.Need-part-first-block-end
-part-first-block-end c = inside (c .before .before .before .before) .1
+frame-requires : tie.Need-frame-requires
+frame-requires c κs = search needs
 
-first-block-requires : tie.Need-first-block-requires
-first-block-requires c κs = search needs
+-- the ends are within the text, and in order
+inside : (c : tie.After-clip2) → (c .clip2 .result ≤ c .before .clip .result) × (c .before .clip .result ≤ length (entry (c .before) .args .text .now))
+inside c =
+    let x = found (c .before) .found .given .0 in
+    let t = entry (c .before) .args .text .now in
+    (omega (arith, c .clip2 .ensures, clipped-within (x .0) (c .before .clip .result)), omega (arith, c .before .clip .ensures, clipped-within (x .1 .0) (length t)))
 
-sub-if1 : tie.Need-sub-if1
-sub-if1 c = inside (c .before .before .before .before .before .before) .0
+sub-copy-over : tie.Need-sub-copy-over
+sub-copy-over c = inside (c .before .before) .0
 
-sub-copy-body : tie.Need-sub-copy-body
-sub-copy-body c = inside (c .before .before .before .before .before .before .before .before .before) .0
+part-copy-over-start : tie.Need-part-copy-over-start
+part-copy-over-start c = inside (c .before .before) .0
 
-part-copy-body-start : tie.Need-part-copy-body-start
-part-copy-body-start c = inside (c .before .before .before .before .before .before .before .before .before) .0
+part-copy-over-end : tie.Need-part-copy-over-end
+part-copy-over-end c = inside (c .before .before) .1
 
-part-copy-body-end : tie.Need-part-copy-body-end
-part-copy-body-end c = inside (c .before .before .before .before .before .before .before .before .before) .1
-
-copy-body-requires : tie.Need-copy-body-requires
-copy-body-requires c κs = (c .before .before .before .before .before .before .before .before .before .before .before .before .before .before .before .pre, c .before .before .before .before .first-block .ensures .ready)
-
-copy-blank-requires : tie.Need-copy-blank-requires
-copy-blank-requires c κs = search needs
+copy-over-requires : tie.Need-copy-over-requires
+copy-over-requires c κs = search needs
 
 same-length : tie.Need-same-length
 same-length c = search needs
 
 returns-3 : tie.Need-returns-3
 returns-3 c =
-    let a = c .before .before .before .before .before .before .before .before .before .before .before .before .before .before .before .before .before .args in
-    let o = c .before .before .before .before .before .before .first-block in
-    rw (part-opened (lent (length (a .list .now))) (a .text .now) (a .setup) (a .line) (a .copies) (a .progress) _ _ _ (is-found (c .before .before .before .before .before .before .before .before .before .before .before .before)) _ (c .before .before .before .before .before .before .before .before .before .sheet .given .1) (o .result) (o .ensures))
-    (c .before .copy-body .ensures)
-
-returns-4 : tie.Need-returns-4
-returns-4 c =
-    let a = c .before .before .before .before .before .before .before .before .before .before .before .before .before .before .args in
-    let x = c .before .before .before .before .before .before .before .before .before .found .given .0 in
-    let o = c .before .before .before .first-block in
-    let n : length (take (x .1 .0 - x .0) (drop (x .0) (a .text .now))) ≤ o .result .at = body-length (a .text .now) (x .0) (x .1 .0) (inside (c .before .before .before .before .before .before .before .before .before) .1) (c .before .if1 .left) in
-    rw (part-blank (lent (length (a .list .now))) (a .text .now) (a .setup) (a .line) (a .copies) (a .progress) _ _ _ (is-found (c .before .before .before .before .before .before .before .before .before)) _ (c .before .before .before .before .before .before .sheet .given .1) (o .result) (o .ensures) n)
-    (c .copy-blank .ensures (a .list .now))
+    let n = c .before .before .before .before .before in
+    let e = n .before in
+    let k = found e in
+    let a = entry e .args in
+    let x = k .found .given .0 in
+    let t = a .text .now in
+    let clip = ap₂ (λ (e s : ℕ). take (e - s) (drop s t)) (e .clip .ensures) (n .clip2 .ensures ∙ ap (clipped (x .0)) (e .clip .ensures)) ∙ part-clipped t (x .0) (x .1 .0) in
+    rw (part-copied (limits (a .setup .job)) t (a .macros) (a .setup) (a .line) (a .copies) (a .progress) (is-found k) (e .before .before .sheet .given .1))
+    (rw (clip, c .before .before .before .before .frame .ensures) at (c .before .copy-over .ensures))
 
 pub copy-part-spec : {M : Type 1} → statement M
 copy-part-spec =
@@ -130,16 +118,12 @@ copy-part-spec =
     enum-told-2
     refused-requires-2
     returns-2
-    sub-first-block
-    part-first-block-start
-    part-first-block-end
-    first-block-requires
-    sub-if1
-    sub-copy-body
-    part-copy-body-start
-    part-copy-body-end
-    copy-body-requires
-    copy-blank-requires
+    clip-requires
+    clip-requires-2
+    frame-requires
+    sub-copy-over
+    part-copy-over-start
+    part-copy-over-end
+    copy-over-requires
     same-length
-    returns-3
-    returns-4)
+    returns-3)

@@ -9,7 +9,7 @@ use Rattle.printing.proofs.examples_hold.Tie as tie
 
 returns : tie.Need-returns
 unfolding bytes digits decimal signedDecimal hitLine hitLines headLine refusalLine listing
-returns c = record { accepted = refl; refused = refl; nibbled = refl; empty = refl }
+returns c = record { refused = refl; nibbled = refl; empty = refl }
 
 pub examples-hold-spec : {M : Type 1} → statement M
 examples-hold-spec = tie.close (tie.spec returns)

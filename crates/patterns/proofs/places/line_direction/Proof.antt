@@ -1,5 +1,4 @@
 -- The direction of the angle, by tables of its own. Assumes nothing.
-use mathlib.Core.Path.{_≡_}
 use mir.Syntax.{w64}
 use mir.Facts.{toZ-ofZ}
 use Rattle.signed.proofs.Integers.{read-back}

@@ -1,12 +1,10 @@
 -- The two coordinates, by cosine and by sine. Assumes nothing.
 use mathlib.Core.Path.{_≡_, ap₂, _∙_}
-use lib.IntN.{ℤ, _+ℤ_}
 use mir.Syntax.{w32, w64}
 use mir.Val.{toZ, ofZ}
 use mir.Facts.{toZ-ofZ}
 use borrow.Author.Needs.{needs}
 use Rattle.signed.proofs.Integers.{read-back}
-use Rattle.sine.specs.Sine.{offset}
 use Rattle.aries.specs.Moves.{pointAt}
 use Rattle.patterns.proofs.places.polar_place.Statement.{statement}
 use Rattle.patterns.proofs.places.polar_place.Tie as tie
@@ -23,17 +21,6 @@ cosine-back c = search needs
 sine-back : (c : tie.Start) → toZ w32 (ofZ w32 (c .args .direction .sine)) ≡ c .args .direction .sine
 sine-back c = search needs
 
--- the two coordinates
-x-is : (c : tie.After-displaced) → c .displaced .result ≡ c .before .before .before .before .before .args .start .x +ℤ offset (c .before .before .before .before .before .args .distance) (c .before .before .before .before .before .args .direction .cosine)
-x-is c =
-    let a = c .before .before .before .before .before in
-    simp (start-x a, cosine-back a, toZ-ofZ (a .fits .distance)) at (c .displaced .ensures)
-
-y-is : (c : tie.After-displaced2) → c .displaced2 .result ≡ c .before .before .before .before .before .before .args .start .y +ℤ offset (c .before .before .before .before .before .before .args .distance) (c .before .before .before .before .before .before .args .direction .sine)
-y-is c =
-    let a = c .before .before .before .before .before .before in
-    simp (start-y a, sine-back a, toZ-ofZ (a .fits .distance)) at (c .displaced2 .ensures)
-
 displaced-requires : tie.Need-displaced-requires
 displaced-requires c κs = search needs
 
@@ -42,9 +29,11 @@ displaced-requires-2 c κs = search needs
 
 returns : tie.Need-returns
 returns c =
+    let d = c .before in
+    let a = d .before .before .before .before .before in
     ap₂ pointAt
-    (read-back w64 (c .before .displaced .result) (c .before .displaced .ok) ∙ x-is (c .before))
-    (read-back w64 (c .displaced2 .result) (c .displaced2 .ok) ∙ y-is c)
+    (read-back w64 (d .displaced .result) (d .displaced .ok) ∙ (simp (start-x a, cosine-back a, toZ-ofZ (a .fits .distance)) at (d .displaced .ensures)))
+    (read-back w64 (c .displaced2 .result) (c .displaced2 .ok) ∙ (simp (start-y a, sine-back a, toZ-ofZ (a .fits .distance)) at (c .displaced2 .ensures)))
 
 pub polar-place-spec : {M : Type 1} → statement M
 polar-place-spec = tie.close (tie.spec displaced-requires displaced-requires-2 returns)

@@ -1,6 +1,5 @@
 -- The two coordinates, each by the signed sum. Assumes nothing.
 use mathlib.Core.Path.{_≡_, ap₂, _∙_}
-use lib.IntN.{pos, _+ℤ_, _*ℤ_}
 use mir.Syntax.{w32, w64}
 use mir.Val.{toZ, ofZ}
 use borrow.Author.Needs.{needs}
@@ -21,17 +20,6 @@ pitch-x c = search needs
 pitch-y : (c : tie.Start) → toZ w32 (ofZ w32 (c .args .pitch .y)) ≡ c .args .pitch .y
 pitch-y c = search needs
 
--- the two coordinates
-x-is : (c : tie.After-affine) → c .affine .result ≡ c .before .before .before .before .before .args .start .x +ℤ (pos (c .before .before .before .before .before .args .column) *ℤ c .before .before .before .before .before .args .pitch .x)
-x-is c =
-    let a = c .before .before .before .before .before in
-    simp (start-x a, pitch-x a) at (c .affine .ensures)
-
-y-is : (c : tie.After-affine2) → c .affine2 .result ≡ c .before .before .before .before .before .before .args .start .y +ℤ (pos (c .before .before .before .before .before .before .args .row) *ℤ c .before .before .before .before .before .before .args .pitch .y)
-y-is c =
-    let a = c .before .before .before .before .before .before in
-    simp (start-y a, pitch-y a) at (c .affine2 .ensures)
-
 affine-requires : tie.Need-affine-requires
 affine-requires c κs = search needs
 
@@ -40,9 +28,11 @@ affine-requires-2 c κs = search needs
 
 returns : tie.Need-returns
 returns c =
+    let d = c .before in
+    let a = d .before .before .before .before .before in
     ap₂ pointAt
-    (read-back w64 (c .before .affine .result) (c .before .affine .ok) ∙ x-is (c .before))
-    (read-back w64 (c .affine2 .result) (c .affine2 .ok) ∙ y-is c)
+    (read-back w64 (d .affine .result) (d .affine .ok) ∙ (simp (start-x a, pitch-x a) at (d .affine .ensures)))
+    (read-back w64 (c .affine2 .result) (c .affine2 .ok) ∙ (simp (start-y a, pitch-y a) at (c .affine2 .ensures)))
 
 pub step-place-spec : {M : Type 1} → statement M
 step-place-spec = tie.close (tie.spec affine-requires affine-requires-2 returns)

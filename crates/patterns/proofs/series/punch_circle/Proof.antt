@@ -1,5 +1,5 @@
 -- The invariant is that of every series of hits, at a circle. Assumes nothing.
-use mathlib.Core.Path.{_≡_, refl, ap, _∙_}
+use mathlib.Core.Path.{_≡_, refl, _∙_}
 use Prim.Native.Nat.{_-_}
 use native.Mathlib.Omega.{arith}
 use lib.ListN.{length}
@@ -7,26 +7,23 @@ use mir.Syntax.{w32, w64}
 use mir.Val.{toZ, ofZ}
 use mir.Facts.{toZ-ofZ}
 use Rattle.signed.proofs.Integers.{read-back}
-use Rattle.sine.specs.Series.{Tables}
-use Rattle.aries.specs.declared.point.Point.{Point}
 use Rattle.aries.specs.declared.block.Pattern.the-variants.{Circle}
 use Rattle.aries.specs.Moves.{_⊕_}
 use Rattle.aries.specs.Patterns.{hole, holes}
 use Rattle.aries.specs.Places.{pointOf}
 use Rattle.aries.specs.Runs.{lent}
-use Rattle.patterns.proofs.Comes.{Series, Under, under-start, under-next, under-refused, under-end}
-use Rattle.patterns.proofs.Offsets.{hole-circle}
+use Rattle.patterns.proofs.Comes.{Series, seriesOf, UnderWay, under-start, under-next, under-refused, under-end}
 use borrow.Author.Needs.{needs}
 use Rattle.patterns.proofs.series.punch_circle.Statement.{statement}
 use Rattle.patterns.proofs.series.punch_circle.Tie as tie
 
 abbrev Inv-loop : tie.InvT-loop
-Inv-loop list₀ frame with start hits radius angle clockwise count degrees sines cosines made₀ k₀ list made k =
+Inv-loop list₀ frame tooling start hits radius angle clockwise count degrees sines cosines made₀ k₀ list made k =
     (length list ≡ length list₀)
-    × Under (record { frame = frame; with = with; pattern = Circle (toZ w32 radius) (toZ w32 angle) clockwise count; start = start; hits = hits; before = lent list₀; count = count }) (lent list) made k
+    × UnderWay (seriesOf frame tooling (Circle (toZ w32 radius) (toZ w32 angle) clockwise count) start hits (lent list₀) count) (lent list) made k
 
 abbrev μ-loop : tie.MeasureT-loop
-μ-loop list₀ frame with start hits radius angle clockwise count degrees sines cosines made₀ k₀ list made k = count - k
+μ-loop list₀ frame tooling start hits radius angle clockwise count degrees sines cosines made₀ k₀ list made k = count - k
 
 -- the function's entry, seen from the loop's head
 abbrev entry : tie.At-loop Inv-loop μ-loop → tie.Start Inv-loop μ-loop
@@ -36,24 +33,7 @@ entry c = c .before .before .before .before
 abbrev circle : tie.Start Inv-loop μ-loop → Series
 circle c =
     let a = c .args in
-    record {
-      frame = a .frame;
-      with = a .with;
-      pattern = Circle (toZ w32 (ofZ w32 (a .radius))) (toZ w32 (ofZ w32 (a .angle))) (a .clockwise) (a .count);
-      start = a .start;
-      hits = a .hits;
-      before = lent (a .list .now);
-      count = a .count;
-    }
-
--- the copies are the tables
-tables : (c : tie.After-hundredth-cosines Inv-loop μ-loop) → Tables (c .before .before .degree-sines .result) (c .before .hundredth-sines .result) (c .hundredth-cosines .result)
-tables c =
-    record {
-      degree = c .before .before .degree-sines .ensures;
-      sine = c .before .hundredth-sines .ensures;
-      cosine = c .hundredth-cosines .ensures;
-    }
+    seriesOf (a .frame) (a .tooling) (Circle (toZ w32 (ofZ w32 (a .radius))) (toZ w32 (ofZ w32 (a .angle))) (a .clockwise) (a .count)) (a .start) (a .hits) (lent (a .list .now)) (a .count)
 
 -- a turn of the loop, seen from its place
 abbrev turn : tie.After-arc-place Inv-loop μ-loop → tie.In-loop Inv-loop μ-loop
@@ -62,39 +42,18 @@ turn c = c .before .before .before .before .before
 -- the place of a hit
 place-is : (c : tie.After-arc-place Inv-loop μ-loop)
     → pointOf (c .arc-place .result) ≡ circle (entry (turn c .before)) .start ⊕ hole (circle (entry (turn c .before)) .pattern) (turn c .before .loop .k)
+unfolding hole
 place-is c =
     let t = c .before .before .before .before in
-    let l = turn c .before in
-    let s = circle (entry l) in
-    (rw (read-back w64 (t .circle-angle .result) (t .circle-angle .ok), t .circle-angle .ensures) at (c .arc-place .ensures))
-    ∙ ap (λ (q : Point). s .start ⊕ q) (hole-circle (l .loop .k) _ _ _ (s .count))
-
-degree-sines-requires : tie.Need-degree-sines-requires Inv-loop μ-loop
-degree-sines-requires c κs = search needs
-
-hundredth-sines-requires : tie.Need-hundredth-sines-requires Inv-loop μ-loop
-hundredth-sines-requires c κs = search needs
-
-hundredth-cosines-requires : tie.Need-hundredth-cosines-requires Inv-loop μ-loop
-hundredth-cosines-requires c κs = search needs
+    rw (read-back w64 (t .circle-angle .result) (t .circle-angle .ok), t .circle-angle .ensures) at (c .arc-place .ensures)
 
 loop-holds : tie.Need-loop-holds Inv-loop μ-loop
 loop-holds c =
     (refl, under-start (circle (c .before .before .before)))
 
-circle-angle-requires : tie.Need-circle-angle-requires Inv-loop μ-loop
-circle-angle-requires c κs = search needs
-
 arc-place-requires : tie.Need-arc-place-requires Inv-loop μ-loop
 arc-place-requires c κs =
-    let l = c .before .before .before .before .before in
-    tables (l .before)
-
-punch-next-requires : tie.Need-punch-next-requires Inv-loop μ-loop
-punch-next-requires c κs = search needs
-
-same-length : tie.Need-same-length Inv-loop μ-loop
-same-length c = search needs
+    let tables = c .before .before .before .before .before .before in search needs
 
 returns : tie.Need-returns Inv-loop μ-loop
 unfolding holes
@@ -110,9 +69,6 @@ add-k c =
     let t = turn (c .before .before .before .before .before) in
     omega (arith, t .loop-test .taken, entry (t .before) .fits .count)
 
-loop-less : tie.Need-loop-less Inv-loop μ-loop
-loop-less c = search needs
-
 loop-again : tie.Need-loop-again Inv-loop μ-loop
 loop-again c =
     let h = c .before .before .before in
@@ -120,9 +76,6 @@ loop-again c =
       h .punch-next .kept .0 ∙ turn p .before .loop .inv .0,
       under-next (circle (entry (turn p .before))) (turn p .before .loop .inv .1) (turn p .loop-test .taken) (place-is p) (h .punch-next .result) (h .punch-next .ensures) (omega arith),
     )
-
-same-length-2 : tie.Need-same-length-2 Inv-loop μ-loop
-same-length-2 c = search needs
 
 returns-2 : tie.Need-returns-2 Inv-loop μ-loop
 unfolding holes
@@ -138,17 +91,17 @@ punch-circle-spec =
     (tie.spec
     Inv-loop
     μ-loop
-    degree-sines-requires
-    hundredth-sines-requires
-    hundredth-cosines-requires
+    (λ c κs. search needs)
+    (λ c κs. search needs)
+    (λ c κs. search needs)
     loop-holds
-    circle-angle-requires
+    (λ c κs. search needs)
     arc-place-requires
-    punch-next-requires
-    same-length
+    (λ c κs. search needs)
+    (λ c. search needs)
     returns
     add-k
-    loop-less
+    (λ c. search needs)
     loop-again
-    same-length-2
+    (λ c. search needs)
     returns-2)

@@ -7,27 +7,25 @@ use lib.ListN.{length}
 use Rattle.lanes.specs.declared.Cursor.{Cursor}
 use Rattle.lanes.specs.Cursors.{cursorAt, passed}
 use Rattle.lanes.proofs.Cursors.{passed-at, at-zero, rest-within, lane-least}
-use Rattle.aries.specs.declared.point.Point.{Point}
 use Rattle.aries.specs.declared.block.Pattern.the-variants.{Grid}
 use Rattle.aries.specs.Moves.{_⊕_}
 use Rattle.aries.specs.Patterns.{gridOffset, hole, holes}
 use Rattle.aries.specs.Places.{pointOf}
 use Rattle.aries.specs.Runs.{lent}
-use Rattle.patterns.proofs.Comes.{Series, Under, under-start, under-next, under-refused, under-end}
+use Rattle.patterns.proofs.Comes.{Series, seriesOf, UnderWay, under-start, under-next, under-refused, under-end}
 use Rattle.patterns.proofs.Holes.{lane-small}
-use Rattle.patterns.proofs.Offsets.{hole-grid}
 use borrow.Author.Needs.{needs}
 use Rattle.patterns.proofs.series.punch_grid.Statement.{statement}
 use Rattle.patterns.proofs.series.punch_grid.Tie as tie
 
 abbrev Inv-loop : tie.InvT-loop
-Inv-loop list₀ frame with start hits vertical pitch steps count last made₀ cursor₀ k₀ list made cursor k =
+Inv-loop list₀ frame tooling start hits vertical pitch steps count last made₀ cursor₀ k₀ list made cursor k =
     (length list ≡ length list₀)
     × (cursor ≡ cursorAt last k)
-    × Under (record { frame = frame; with = with; pattern = Grid vertical pitch steps; start = start; hits = hits; before = lent list₀; count = count }) (lent list) made k
+    × UnderWay (seriesOf frame tooling (Grid vertical pitch steps) start hits (lent list₀) count) (lent list) made k
 
 abbrev μ-loop : tie.MeasureT-loop
-μ-loop list₀ frame with start hits vertical pitch steps count last made₀ cursor₀ k₀ list made cursor k =
+μ-loop list₀ frame tooling start hits vertical pitch steps count last made₀ cursor₀ k₀ list made cursor k =
     count - k
 
 -- the function's entry, seen from the loop's head
@@ -37,15 +35,7 @@ entry c = c .before .before .before .before
 abbrev grid : tie.After-grid-holes Inv-loop μ-loop → Series
 grid c =
     let a = c .before .args in
-    record {
-      frame = a .frame;
-      with = a .with;
-      pattern = Grid (a .vertical) (a .pitch) (a .steps);
-      start = a .start;
-      hits = a .hits;
-      before = lent (a .list .now);
-      count = c .grid-holes .result;
-    }
+    seriesOf (a .frame) (a .tooling) (Grid (a .vertical) (a .pitch) (a .steps)) (a .start) (a .hits) (lent (a .list .now)) (c .grid-holes .result)
 
 -- the steps are of 16 bits
 steps-fit : (c : tie.Start Inv-loop μ-loop) → (c .args .steps .x < 65536) × (c .args .steps .y < 65536)
@@ -73,6 +63,7 @@ counted c = c .before .before .before
 -- the place of a hit
 place-is : (c : tie.After-grid-place Inv-loop μ-loop)
     → pointOf (c .grid-place .result) ≡ grid (counted (turn c .before)) .start ⊕ hole (grid (counted (turn c .before)) .pattern) (turn c .before .loop .k)
+unfolding hole
 place-is c =
     let l = turn c .before in
     let a = entry l .args in
@@ -80,16 +71,6 @@ place-is c =
     let cursor = c .before .next .result in
     let m = ap (λ (n : ℕ). passed n cursor) (sym (last .ensures)) ∙ ap (passed (last .result)) (next-is (c .before)) ∙ passed-at (last .result) (suc (l .loop .k)) in
     c .grid-place .ensures ∙ ap (λ (n : ℕ). a .start ⊕ gridOffset (a .vertical) (a .pitch) (a .steps) n) m
-    ∙ ap (λ (q : Point). a .start ⊕ q) (hole-grid (l .loop .k) (a .vertical) (a .pitch) (a .steps))
-
-grid-holes-requires : tie.Need-grid-holes-requires Inv-loop μ-loop
-grid-holes-requires c κs = search needs
-
-lane-end-requires : tie.Need-lane-end-requires Inv-loop μ-loop
-lane-end-requires c κs = search needs
-
-first-requires : tie.Need-first-requires Inv-loop μ-loop
-first-requires c κs = search needs
 
 loop-holds : tie.Need-loop-holds Inv-loop μ-loop
 loop-holds c =
@@ -112,24 +93,12 @@ grid-place-requires c κs =
     let small = lane-small (e .args .vertical) (e .args .steps) (last .result) (l .loop .k) (last .ensures) (omega (arith, counted l .grid-holes .ensures)) (steps-fit e .0) (steps-fit e .1) in
     omega (arith, last .ensures, ap (λ (d : Cursor). d .rest) (next-is c), ap (λ (d : Cursor). d .lane) (next-is c), rest-within (last .result) (suc (l .loop .k)))
 
-punch-next-requires : tie.Need-punch-next-requires Inv-loop μ-loop
-punch-next-requires c κs = search needs
-
-same-length : tie.Need-same-length Inv-loop μ-loop
-same-length c = search needs
-
 returns : tie.Need-returns Inv-loop μ-loop
 returns c =
     let h = c .before .before .before in
     let p = h .before .before in
     let l = turn p .before in
     under-refused (grid (counted l)) (l .loop .inv .2) (turn p .loop-test .taken) (place-is p) (h .punch-next .result) (h .punch-next .ensures) (c .if1 .taken) (count-is (counted l))
-
-add-k : tie.Need-add-k Inv-loop μ-loop
-add-k c = search needs
-
-loop-less : tie.Need-loop-less Inv-loop μ-loop
-loop-less c = search needs
 
 loop-again : tie.Need-loop-again Inv-loop μ-loop
 loop-again c =
@@ -140,9 +109,6 @@ loop-again c =
       rw add-one (next-is (p .before)),
       under-next (grid (counted l)) (l .loop .inv .2) (turn p .loop-test .taken) (place-is p) (h .punch-next .result) (h .punch-next .ensures) (omega arith),
     )
-
-same-length-2 : tie.Need-same-length-2 Inv-loop μ-loop
-same-length-2 c = search needs
 
 returns-2 : tie.Need-returns-2 Inv-loop μ-loop
 returns-2 c =
@@ -155,17 +121,17 @@ punch-grid-spec =
     (tie.spec
     Inv-loop
     μ-loop
-    grid-holes-requires
-    lane-end-requires
-    first-requires
+    (λ c κs. search needs)
+    (λ c κs. search needs)
+    (λ c κs. search needs)
     loop-holds
     next-requires
     grid-place-requires
-    punch-next-requires
-    same-length
+    (λ c κs. search needs)
+    (λ c. search needs)
     returns
-    add-k
-    loop-less
+    (λ c. search needs)
+    (λ c. search needs)
     loop-again
-    same-length-2
+    (λ c. search needs)
     returns-2)

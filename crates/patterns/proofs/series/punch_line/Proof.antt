@@ -12,7 +12,7 @@ use Rattle.aries.specs.Moves.{_⊕_}
 use Rattle.aries.specs.Patterns.{hole, holes}
 use Rattle.aries.specs.Places.{pointOf}
 use Rattle.aries.specs.Runs.{lent}
-use Rattle.patterns.proofs.Comes.{Series, Under, under-start, under-next, under-refused, under-end}
+use Rattle.patterns.proofs.Comes.{Series, seriesOf, UnderWay, under-start, under-next, under-refused, under-end}
 use Rattle.patterns.proofs.Holes.{nearer}
 use Rattle.patterns.proofs.Offsets.{hole-line}
 use borrow.Author.Needs.{needs}
@@ -20,12 +20,12 @@ use Rattle.patterns.proofs.series.punch_line.Statement.{statement}
 use Rattle.patterns.proofs.series.punch_line.Tie as tie
 
 abbrev Inv-loop : tie.InvT-loop
-Inv-loop list₀ frame with start hits pitch angle count direction made₀ k₀ list made k =
+Inv-loop list₀ frame tooling start hits pitch angle count direction made₀ k₀ list made k =
     (length list ≡ length list₀)
-    × Under (record { frame = frame; with = with; pattern = Line (toZ w32 pitch) (toZ w32 angle) count; start = start; hits = hits; before = lent list₀; count = count }) (lent list) made k
+    × UnderWay (seriesOf frame tooling (Line (toZ w32 pitch) (toZ w32 angle) count) start hits (lent list₀) count) (lent list) made k
 
 abbrev μ-loop : tie.MeasureT-loop
-μ-loop list₀ frame with start hits pitch angle count direction made₀ k₀ list made k = count - k
+μ-loop list₀ frame tooling start hits pitch angle count direction made₀ k₀ list made k = count - k
 
 -- the function's entry, seen from the loop's head
 abbrev entry : tie.At-loop Inv-loop μ-loop → tie.Start Inv-loop μ-loop
@@ -35,15 +35,7 @@ entry c = c .before .before
 abbrev line : tie.Start Inv-loop μ-loop → Series
 line c =
     let a = c .args in
-    record {
-      frame = a .frame;
-      with = a .with;
-      pattern = Line (toZ w32 (ofZ w32 (a .pitch))) (toZ w32 (ofZ w32 (a .angle))) (a .count);
-      start = a .start;
-      hits = a .hits;
-      before = lent (a .list .now);
-      count = a .count;
-    }
+    seriesOf (a .frame) (a .tooling) (Line (toZ w32 (ofZ w32 (a .pitch))) (toZ w32 (ofZ w32 (a .angle))) (a .count)) (a .start) (a .hits) (lent (a .list .now)) (a .count)
 
 -- the place of a hit
 place-is : (c : tie.After-line-place Inv-loop μ-loop)
@@ -51,28 +43,16 @@ place-is : (c : tie.After-line-place Inv-loop μ-loop)
 place-is c =
     let l = c .before .before in
     let s = line (entry l) in
-    (rw (l .before .line-direction .ensures) at (c .line-place .ensures)) ∙ ap (λ (q : Point). s .start ⊕ q) (hole-line (l .loop .k) _ _ (s .count))
-
-line-direction-requires : tie.Need-line-direction-requires Inv-loop μ-loop
-line-direction-requires c κs = search needs
+    (rw (l .before .line-direction .ensures) at (c .line-place .ensures)) ∙ ap (λ (q : Point). s .start ⊕ q) (hole-line _ _ (s .count) (l .loop .k))
 
 loop-holds : tie.Need-loop-holds Inv-loop μ-loop
 loop-holds c =
     (refl, under-start (line (c .before)))
 
-add-k : tie.Need-add-k Inv-loop μ-loop
-add-k c = search needs
-
 line-place-requires : tie.Need-line-place-requires Inv-loop μ-loop
 line-place-requires c κs =
     let e = entry (c .before) in
     simp (toZ-ofZ (e .fits .pitch)) (nearer (c .before .loop .k + 1) (e .args .count) (e .args .pitch) (omega arith) (e .pre))
-
-punch-next-requires : tie.Need-punch-next-requires Inv-loop μ-loop
-punch-next-requires c κs = search needs
-
-same-length : tie.Need-same-length Inv-loop μ-loop
-same-length c = search needs
 
 returns : tie.Need-returns Inv-loop μ-loop
 unfolding holes
@@ -83,9 +63,6 @@ returns c =
     simp (toZ-ofZ (e .fits .pitch), toZ-ofZ (e .fits .angle)) at
     (under-refused (line e) (i .before .loop .inv .1) (i .loop-test .taken) (place-is (h .before .before)) (h .punch-next .result) (h .punch-next .ensures) (c .if1 .taken) refl)
 
-loop-less : tie.Need-loop-less Inv-loop μ-loop
-loop-less c = search needs
-
 loop-again : tie.Need-loop-again Inv-loop μ-loop
 loop-again c =
     let h = c .before .before .before in
@@ -93,9 +70,6 @@ loop-again c =
       h .punch-next .kept .0 ∙ i .before .loop .inv .0,
       under-next (line (entry (i .before))) (i .before .loop .inv .1) (i .loop-test .taken) (place-is (h .before .before)) (h .punch-next .result) (h .punch-next .ensures) (omega arith),
     )
-
-same-length-2 : tie.Need-same-length-2 Inv-loop μ-loop
-same-length-2 c = search needs
 
 returns-2 : tie.Need-returns-2 Inv-loop μ-loop
 unfolding holes
@@ -111,14 +85,14 @@ punch-line-spec =
     (tie.spec
     Inv-loop
     μ-loop
-    line-direction-requires
+    (λ c κs. search needs)
     loop-holds
-    add-k
+    (λ c. search needs)
     line-place-requires
-    punch-next-requires
-    same-length
+    (λ c κs. search needs)
+    (λ c. search needs)
     returns
-    loop-less
+    (λ c. search needs)
     loop-again
-    same-length-2
+    (λ c. search needs)
     returns-2)

@@ -1,5 +1,5 @@
 -- What 15 makes of the place tells the two apart. Assumes nothing.
-use mathlib.Core.Path.{_≡_, sym, _∙_}
+use mathlib.Core.Path.{sym, _∙_}
 use Rattle.aries.specs.Places.{pointOf}
 use Rattle.press.proofs.Located.{located-at, located-far}
 use borrow.Author.Needs.{needs}

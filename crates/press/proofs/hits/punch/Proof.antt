@@ -1,10 +1,10 @@
 -- What is judged of the hit tells which way it went, and the laws of it what that comes to. Assumes nothing.
-use mathlib.Core.Path.{_≡_, sym, ap, _∙_}
+use mathlib.Core.Path.{_≡_, sym, _∙_}
 use Prim.Native.Nat.{_<_}
 use native.Mathlib.Omega.{arith}
 use Rattle.aries.specs.declared.point.Point.{Point}
 use Rattle.aries.specs.Places.{pointOf}
-use Rattle.press.specs.declared.hits.Judged.the-variants.{Made, Refused}
+use Rattle.press.specs.declared.hits.Judged.the-variants.{Made}
 use Rattle.press.specs.Hits.{judgedHit}
 use Rattle.press.proofs.Punch.{hit-fits, punch-made, punch-refused}
 use borrow.Author.Needs.{needs}

@@ -1,0 +1,279 @@
+-- Demand 1, of refusals: past 1 each has a number from 2 to 17 and the line of a block that is carried out (`Sound`). Of the
+-- blocks of bodies too that is a line of the text: wherever a program comes, all that is stored lies within its lines.
+use mathlib.Core.Path.{_≡_, refl, sym, ap, _∙_, subst}
+use mathlib.Core.Bool.{Bool, true, false, true≢false}
+use mathlib.Core.List.{List, [], _∷_}
+use mathlib.Core.Option.{Option, none, some}
+use Prim.Native.Nat.{ℕ, suc, _+_, _-_, _≤_, _<_}
+use native.Mathlib.Nat.{add-assoc}
+use native.Mathlib.Omega.{arith}
+use lib.Dec.{leb, ltb, eqb}
+use lib.ListN.{length, drop, length-set}
+use lib.Seq.{drop-drop, getD-set-same, getD-set-other}
+use borrow.Author.Tests.{ltb-true, ltb-false, eqb-true, eqb-false, leb-true}
+use Rattle.aries.specs.declared.block.Outside.{Outside}
+use Rattle.aries.specs.declared.block.Outside.the-variants as Outside
+use Rattle.aries.specs.declared.block.Block.{Block}
+use Rattle.aries.specs.declared.block.Block.the-variants as Block
+use Rattle.aries.specs.declared.job.Job.{Job}
+use Rattle.aries.specs.declared.machine.Named.{Named}
+use Rattle.aries.specs.declared.machine.Named.the-variants.{As, Neither}
+use Rattle.aries.specs.declared.macros.Macros.{Macros}
+use Rattle.aries.specs.declared.macros.Found.the-variants as Found
+use Rattle.aries.specs.declared.point.Point.{Point}
+use Rattle.aries.specs.declared.setup.Sheet.{Sheet}
+use Rattle.aries.specs.declared.setup.Sheet.the-variants.{LaidOut}
+use Rattle.aries.specs.declared.setup.Stage.the-variants.{Running}
+use Rattle.aries.specs.declared.setup.Setup.{Setup}
+use Rattle.aries.specs.declared.setup.Program.{Program}
+use Rattle.aries.specs.declared.state.Progress.{Progress}
+use Rattle.aries.specs.Test.{both, pick, within}
+use Rattle.aries.specs.Outcome.{Out, done, refused, _>>=_, need}
+use Rattle.aries.specs.Letters.{letterV}
+use Rattle.aries.specs.Text.{longest, startsWith, strayLine, withoutSpaces, lines}
+use Rattle.aries.specs.Hits.{Hit, Made, still}
+use Rattle.aries.specs.Judging.{Judging, judged, near, limits, lending}
+use Rattle.aries.specs.Machine.{named}
+use Rattle.aries.specs.Moves.{_⊕_}
+use Rattle.aries.specs.Macros.{Body, noMacros, bodyAt, bodiesOf, storing, part, characters, mostCalls, runBody, call, carry, begin}
+use Rattle.aries.specs.Setup.{referenceOf, withOrigin, setOrigin, offsetBy, ordinaryFrame}
+use Rattle.aries.specs.Bodies.{bodySize, mostCharacters, runsFirst, firstRun, bodyFrom, storedAt, Store, withStored, openBody}
+use Rattle.aries.specs.Program.{withProgress, withStore, atStage, freshProgram, inPlace, started, settled, carryOutside, carryOut, isStoring, passOver, runBlockOutside, runLineOutside, runFrom, isEnded, noStray, perform, expand}
+use Rattle.aries.specs.Refusals.{RefusalOf, RefusalsNamed}
+use Rattle.aries.proofs.LineCounts.{lines-some, lines-take, lines-dense, lines-next, stray-inside}
+use Rattle.aries.proofs.Storage.{found-fresh, storing-out}
+use Rattle.aries.proofs.Sound.{LineOf, Answered, Any, Each, Proper, Sound, BodyOf, BodiesOf, sound-refused, sound-done, sound-bind, sound-need, sound-given, sound-then, sound-leaving, begin-proper, carry-sound, call-sound, runBody-sound, copyPart-sound}
+
+-- ---- What is stored
+
+-- the arrays are equally long, and each body lies within the lines of the text
+pub record StoreOf (last : ℕ) (text : List ℕ) (m : Macros) : Type 0 where
+  pub starts : length (m .start) ≡ length (m .line)
+  pub ends : length (m .end) ≡ length (m .line)
+  pub stored : BodiesOf last (bodiesOf text m)
+
+module _ (last : ℕ) (text : List ℕ) where
+  module _ (m : Macros) (n start end line : ℕ) (s : StoreOf last text m) (b : BodyOf last (record { line = line; bytes = part text start end })) where
+    -- one body more, under a number that the arrays have,
+    stored-same : n < length (m .line) → Each (BodyOf last) (bodiesOf text (storing m n start end line) n)
+    unfolding bodiesOf
+    stored-same h =
+        let h′ : n < length (m .start) = omega (arith, s .starts) in
+        let h″ : n < length (m .end) = omega (arith, s .ends) in
+        rw (getD-set-same (m .line) n line 0 h, getD-set-same (m .start) n start 0 h′, getD-set-same (m .end) n end 0 h″) (go (ltb 0 line))
+      where
+        go : (t : Bool) → Each (BodyOf last) (bodyAt text (pick t (Found.Body start end line) Found.Nothing))
+        go true = b
+        go false = tt
+
+    -- and what the others hold
+    stored-other : (k : ℕ) → (k ≡ n → ⊥) → Each (BodyOf last) (bodiesOf text (storing m n start end line) k)
+    unfolding bodiesOf
+    stored-other k h =
+        rw (getD-set-other (m .line) n k line 0 h, getD-set-other (m .start) n k start 0 h, getD-set-other (m .end) n k end 0 h) (s .stored k)
+
+    storing-of : StoreOf last text (storing m n start end line)
+    storing-of = go (ltb n (length (m .line))) refl
+      where
+        at : n < length (m .line) → (k : ℕ) (t : Bool) → eqb k n ≡ t → Each (BodyOf last) (bodiesOf text (storing m n start end line) k)
+        at h k true e = rw (eqb-true k n e) (stored-same h)
+        at h k false e = stored-other k (eqb-false k n e)
+
+        go : (t : Bool) → ltb n (length (m .line)) ≡ t → StoreOf last text (storing m n start end line)
+        go true e =
+            record { starts = simp length-set (s .starts); ends = simp length-set (s .ends); stored = λ k. at (ltb-true _ _ e) k (eqb k n) refl }
+        go false e =
+            let out = ltb-false n (length (m .line)) e in
+            rw (storing-out m n start end line (omega (arith, s .starts)) (omega (arith, s .ends)) out) s
+
+  -- ---- U lines
+
+  firstRun-sound :
+      (j : Judging) (m : Macros) (n : ℕ) (b : Body) (s : Setup) (g : Progress) → StoreOf last text m → BodyOf last b → Sound last Any (firstRun j text m n b s g)
+  unfolding firstRun
+  firstRun-sound j m n b s g st k = go (runsFirst n (s .sheet))
+    where
+      go : (t : Bool) → Sound {A = Progress} last Any (elim t [ true ↦ runBody j (bodiesOf text m) (mostCalls - 1) (ordinaryFrame s) b g | false ↦ still g ])
+      go true = runBody-sound j (bodiesOf text m) (st .stored) (mostCalls - 1) (ordinaryFrame s) b g k
+      go false = sound-done tt
+
+  module _ (j : Judging) (line : ℕ) (h : LineOf last line) where
+    -- the body lies within the lines that follow
+    bodyFrom-of : (start size : ℕ) → line + suc (length (lines (drop start text))) ≤ suc last → BodyOf last (bodyFrom text start size line)
+    unfolding part
+    bodyFrom-of start size a =
+        record { from = omega arith; to = omega (arith, lines-take (start + size - start) (drop start text)) }
+
+    openBody-sound :
+        (n start : ℕ) (ls : List (List ℕ)) (s : Setup) (st : Store) → StoreOf last text (st .macros)
+        → line + suc (length (lines (drop start text))) ≤ suc last
+        → Sound last (λ (r : Store). StoreOf last text (r .macros)) (openBody j text n start line ls s st)
+    unfolding openBody
+    openBody-sound n start ls s st k a =
+        sound-given Any (bodySize n ls) 9 refl h (any (bodySize n ls)) λ size _.
+        let b = bodyFrom-of start size a in
+        sound-need (leb (characters (storedAt (st .macros) n start size line)) mostCharacters) 12 refl h
+        (sound-leaving (withStored (storedAt (st .macros) n start size line)) _
+        (firstRun-sound j (st .macros) n (bodyFrom text start size line) s (st .progress) k b)
+        (λ g _. storing-of (st .macros) n start (start + size) (suc line) k b))
+      where
+        any : (o : Option ℕ) → Each Any o
+        any none = tt
+        any (some size) = tt
+
+  -- ---- Blocks outside bodies
+
+  -- what every program has stored
+  abbrev Held : Program → Type 0
+  Held p = StoreOf last text (p .macros)
+
+  settled-sound :
+      (j : Judging) (line : ℕ) → LineOf last line → (sheet : Sheet) (offset : Point) (s : Setup) (p : Program) → Held p
+      → Sound last Held (settled p (setOrigin j line sheet offset s))
+  unfolding setOrigin
+  settled-sound j line h sheet offset s p k = go (judged (j .bounds) (near (referenceOf sheet ⊕ offset)))
+    where
+      go : (t : Bool) → Sound last Held (settled p (_>>=_ (need t 15 line) (λ _. done (withOrigin s sheet offset))))
+      go true = sound-done k
+      go false = sound-refused refl h
+
+  started-sound : (p : Program) (q : Point) (line : ℕ) → LineOf last line → (n : Named) → Held p → Sound last Held (started p q line n)
+  started-sound p q line h Neither k = sound-refused refl h
+  started-sound p q line h (As m) k = sound-done k
+
+  passOver-sound : (l : List ℕ) (p : Program) → Held p → Sound last Held (passOver l p)
+  passOver-sound l p k = go (startsWith letterV l)
+    where
+      go : (t : Bool) → Sound last Held (elim t as (λ _. Out (Made Program)) [ true ↦ still (atStage Running p) | false ↦ still p ])
+      go true = sound-done k
+      go false = sound-done k
+
+  -- the lines given are those of the text from the next place on
+  module _
+      (j : Judging) (next line : ℕ) (h : LineOf last line) (ls : List (List ℕ)) (rest : lines (drop next text) ≡ ls)
+      (room : line + suc (length ls) ≤ suc last) where
+    carryOutside-sound : (b : Outside) (p : Program) → Held p → Sound last Held (carryOutside j text next line ls b p)
+    unfolding carryOutside
+    carryOutside-sound (Outside.Machine q) p k = started-sound p q line h (named q) k
+    carryOutside-sound Outside.End p k = sound-done k
+    carryOutside-sound (Outside.Offset a) p k = settled-sound j line h (p .setup .sheet) (offsetBy a (p .setup .offset)) (p .setup) p k
+    carryOutside-sound (Outside.Layout l) p k = settled-sound j line h (LaidOut l) (p .setup .offset) (p .setup) p k
+    carryOutside-sound (Outside.Open n) p k =
+        sound-leaving (withStore p) _
+        (openBody-sound j line h n next ls (p .setup) (withStored (p .macros) (p .progress)) k (rw rest room))
+        (λ st k′. k′)
+    carryOutside-sound (Outside.Close n) p k = sound-refused refl h
+    carryOutside-sound (Outside.Copy c) p k =
+        sound-leaving (withProgress p) _ (copyPart-sound j (bodiesOf text (p .macros)) (k .stored) line h (p .setup) c (p .progress)) (λ g _. k)
+
+    -- as in a body
+    inBody-sound :
+        (b : Block) (p : Program) → Held p
+        → Sound last Any (carry j (call j (bodiesOf text (p .macros)) mostCalls) (ordinaryFrame (p .setup)) line b (p .progress))
+    inBody-sound b p k = carry-sound j _ (call-sound j (bodiesOf text (p .macros)) (k .stored) mostCalls) (ordinaryFrame (p .setup)) line h b (p .progress)
+
+    carryOut-sound : (b : Block) (p : Program) → Held p → Sound last Held (carryOut j text next line ls b p)
+    unfolding carryOut
+    carryOut-sound (Block.Direct d) p k = sound-leaving (withProgress p) _ (inBody-sound (Block.Direct d) p k) (λ g _. k)
+    carryOut-sound (Block.Call n) p k = sound-leaving (withProgress p) _ (inBody-sound (Block.Call n) p k) (λ g _. k)
+    carryOut-sound (Block.Outside b) p k = carryOutside-sound b p k
+
+    -- ---- Lines
+
+    runBlockOutside-sound : (l : List ℕ) (p : Program) → Held p → Sound last Held (runBlockOutside j text next line l ls p)
+    unfolding runBlockOutside
+    runBlockOutside-sound l p k =
+        sound-bind (begin j line l (p .progress)) _ (begin-proper j line h l (p .progress)) λ b _.
+        sound-need (inPlace (p .stage) (b .block)) 7 refl h (carryOut-sound (b .block) (withProgress p (b .progress)) k)
+
+    runLineOutside-sound : (l : List ℕ) (p : Program) → Held p → Sound last Held (runLineOutside j text next line l ls p)
+    runLineOutside-sound [] p k = sound-done k
+    runLineOutside-sound (b ∷ bs) p k = go (isStoring (p .stage))
+      where
+        go : (t : Bool) → Sound last Held (elim t as (λ _. Out (Made Program)) [ true ↦ passOver (b ∷ bs) p | false ↦ runBlockOutside j text next line (b ∷ bs) ls p ])
+        go true = passOver-sound (b ∷ bs) p k
+        go false = runBlockOutside-sound (b ∷ bs) p k
+
+  runFrom-sound :
+      (j : Judging) (at line : ℕ) (ls : List (List ℕ)) (p : Program) → lines (drop at text) ≡ ls → 1 ≤ line → line + length ls ≤ suc last → Held p
+      → Sound last Held (runFrom j text at line ls p)
+  unfolding runFrom
+  runFrom-sound j at line [] p e a b k = sound-done k
+  runFrom-sound j at line (l ∷ ls) p e a b k =
+      sound-then (runLineOutside j text (at + length l + 1) line l ls p) _
+      (runLineOutside-sound j (at + length l + 1) line (record { from = a; to = omega arith }) ls next b l p k)
+      (λ p′ k′. runFrom-sound j (at + length l + 1) (suc line) ls p′ next (omega arith) (omega arith) k′)
+    where
+      next : lines (drop (at + length l + 1) text) ≡ ls
+      next =
+          ap (λ (n : ℕ). lines (drop n text)) (add-assoc at (length l) 1)
+          ∙ ap lines (sym (drop-drop (length l + 1) at text))
+          ∙ lines-next (drop at text) l ls e
+
+-- ---- The text
+
+nothing-stored : (last : ℕ) (text : List ℕ) → StoreOf last text noMacros
+unfolding bodiesOf
+nothing-stored last text = record { starts = refl; ends = refl; stored = λ n. rw (found-fresh n) tt }
+
+perform-proper : (job : Job) (text : List ℕ) (last : ℕ) → 1 ≤ last → length (lines text) ≤ last → Proper last Any (perform job text last)
+unfolding perform
+perform-proper job text last a b =
+    go (runFrom (limits job) text 0 1 (lines text) (freshProgram job))
+    (runFrom-sound last text (limits job) 0 1 (lines text) (freshProgram job) refl (omega arith) (omega arith) (nothing-stored last text))
+  where
+    ended : (t : Bool) (hits : List Hit) → Proper last Any (_>>=_ (need t 7 last) (λ _. done hits))
+    ended true hits = record { answered = tt }
+    ended false hits = record { answered = (refl, record { from = a; to = omega arith }) }
+
+    go :
+        (x : Out (Made Program)) → Sound last (Held last text) x
+        → Proper last Any (_>>=_ x (λ m. _>>=_ (need (isEnded (m .after .stage)) 7 last) (λ _. done (m .hits))))
+    go (done m) k = ended (isEnded (m .after .stage)) (m .hits)
+    go (refused number line) k = record { answered = k .answered }
+
+-- 2, and what is carried out
+text-proper :
+    (text : List ℕ) (numbers : ℕ) → 1 ≤ length text
+    → Proper (length (lines text)) Any (_>>=_ (noStray (strayLine 1 text)) (λ _. perform (lending numbers) (withoutSpaces text) (length (lines text))))
+text-proper text numbers h = go (strayLine 1 text) refl
+  where
+    go :
+        (o : Option ℕ) → strayLine 1 text ≡ o
+        → Proper (length (lines text)) Any (_>>=_ (noStray o) (λ _. perform (lending numbers) (withoutSpaces text) (length (lines text))))
+    go none e = perform-proper (lending numbers) (withoutSpaces text) (length (lines text)) (lines-some text h) (lines-dense text)
+    go (some line) e =
+        let i = stray-inside text 1 line e in
+        record { answered = (refl, record { from = i .0; to = omega arith }) }
+
+within-bounds : (a b x : ℕ) → within a b x ≡ true → (a ≤ x) × (x ≤ b)
+within-bounds a b x e = go (leb a x) (leb x b) refl refl e
+  where
+    go : (p q : Bool) → leb a x ≡ p → leb x b ≡ q → both p q ≡ true → (a ≤ x) × (x ≤ b)
+    go true true f g e = (leb-true a x f, leb-true x b g)
+    go true false f g e = absurd (true≢false (sym e))
+    go false q f g e = absurd (true≢false (sym e))
+
+pub refusals-named : RefusalsNamed
+unfolding expand
+refusals-named text numbers number line e = go (within 1 longest (length text)) refl e
+  where
+    past : Out (List Hit)
+    past = _>>=_ (noStray (strayLine 1 text)) (λ _. perform (lending numbers) (withoutSpaces text) (length (lines text)))
+
+    go :
+        (t : Bool) → within 1 longest (length text) ≡ t → _>>=_ (need t 1 0) (λ _. past) ≡ refused number line
+        → RefusalOf text number line
+    go false w e =
+        let number-is : number ≡ 1 = cc in
+        let line-is : line ≡ 0 = cc in
+        record { numbered = (omega arith, omega arith); lineless = (λ _. number-is, λ _. line-is); lined = λ other. absurd (other number-is) }
+    go true w e =
+        let a = subst (Answered (length (lines text)) Any) e (text-proper text numbers (within-bounds 1 longest (length text) w .0) .answered) in
+        let n = within-bounds 2 17 number (a .0) in
+        let l = a .1 in
+        record {
+          numbered = (omega arith, n .1);
+          lineless = (λ z. absurd (omega arith), λ z. absurd (omega arith));
+          lined = λ _. (l .from, l .to);
+        }

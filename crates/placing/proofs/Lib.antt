@@ -1,0 +1,3 @@
+pub mod AllNear
+pub mod CopyPlace
+pub mod Located
