@@ -112,7 +112,7 @@ module _ (j : Judging) (t : List ℕ) (s : Setup) (m : Macros) where
 -- ---- A stretch that was carried out
 
 module _ (t : List ℕ) (from line : ℕ) (s : Setup) (g : Progress) where
-  abbrev here : Stretched
+  abbrev pub here : Stretched
   here = stretch (limits (s .job)) (ordinaryFrame s) from line (lines (drop from t)) g
 
   module _ {status : Status} {left : Progress} {before after : Lent} (ran : Ran hitsMade (s .job) status left before after (g .hits) (here .made)) where

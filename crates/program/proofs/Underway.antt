@@ -81,7 +81,7 @@ module _ (job : Job) (l₀ : List ℤ) (t : List ℕ) where
 
     -- a block that needs the stored bodies
     module _
-        {b : Block} {end place : ℕ} {n : Next} {status : Status} {p : Program} {l'' : List ℤ} (next : r .next ≡ n) (far : Beyond t from end place)
+        (b : Block) (end place : ℕ) {n : Next} {status : Status} {p : Program} {l'' : List ℤ} (next : r .next ≡ n) (far : Beyond t from end place)
         (is : leftOf (limits job) t n (at r m) ≡ andThen (carried (limits job) t end place b (at r m)) (linesFrom (limits job) t end place))
         (ran : Ran hitsOfProgram (r .setup .job) status p (lent l') (lent l'') (r .progress .hits) (carried (limits (r .setup .job)) t end place b (at r m))) where
       ran-here : {x : Status} → status ≡ x → Ran hitsOfProgram job x p (lent l') (lent l'') (r .progress .hits) (carried (limits job) t end place b (at r m))

@@ -1,170 +1,130 @@
+-- The invariant: the text is under way. What each turn makes of that goes by what comes next.
+use mathlib.Core.Path.{_≡_, refl, _∙_}
+use Prim.Native.Nat.{ℕ, _+_, _-_}
+use native.Mathlib.Omega.{arith}
+use borrow.Author.Needs.{needs}
+use lib.ListN.{length, drop}
+use Rattle.aries.specs.declared.block.Block.the-variants as Block
+use Rattle.aries.specs.declared.block.Outside.the-variants as Outside
+use Rattle.aries.specs.Bodies.{withStored, openBody}
+use Rattle.aries.specs.Judging.{limits}
+use Rattle.aries.specs.Program.{withStore, carryOut, carryOutside}
+use Rattle.aries.specs.Runs.{lent, hitsOfProgram, Ran}
+use Rattle.aries.specs.Text.{lines}
+use Rattle.aries.proofs.Runs.{ran-leaving}
+use Rattle.program.specs.declared.turn.Next.{Next}
+use Rattle.program.specs.Turns.{at, carried, blockOf, Comes, Beyond}
+use Rattle.program.proofs.Underway.{Underway, underway-start, underway-end, comes-at, turn-refused, turn-line, block-refused, block-passed}
 use Rattle.program.proofs.lines.run_text.Statement.{statement}
 use Rattle.program.proofs.lines.run_text.Tie as tie
-use Rattle.program.proofs.lines.run_text.Reads as reads
-use Rattle.program.proofs.lines.run_text.Lts as lts
-use Rattle.aries.proofs.macros.Macros.none.Reads as none-reads
-use Rattle.aries.proofs.setup.Advance.passed.Reads as passed-reads
-use Rattle.aries.proofs.setup.Advance.refused.Reads as refused-reads
-use Rattle.aries.proofs.setup.Program.fresh.Reads as setup-Program-fresh-reads
-use Rattle.aries.proofs.setup.Setup.fresh.Reads as setup-Setup-fresh-reads
-use Rattle.aries.proofs.state.Progress.fresh.Reads as state-Progress-fresh-reads
-use Rattle.program.proofs.lines.run_called.Reads as run-called-reads
-use Rattle.program.proofs.lines.run_turn.Reads as run-turn-reads
-use Rattle.storing.proofs.open_body.Reads as open-body-reads
 
 abbrev Inv-loop : tie.InvT-loop
 Inv-loop job list₀ text stage₀ setup₀ macros₀ progress₀ at₀ line₀ list stage setup macros progress at line =
-    ?
+    Underway job list₀ text list stage setup macros progress at line
 
 abbrev μ-loop : tie.MeasureT-loop
 μ-loop job list₀ text stage₀ setup₀ macros₀ progress₀ at₀ line₀ list stage setup macros progress at line =
-    ?
+    length text + 1 - at
 
--- src/lines.rt:170:9
-fresh-requires : tie.Need-fresh-requires Inv-loop μ-loop
-fresh-requires c κs = ?
+-- a turn, from the head of the loop on
+module _ (c : tie.After-run-turn Inv-loop μ-loop) where
+  abbrev head : tie.At-loop Inv-loop μ-loop
+  head = c .before .before .before
 
--- src/lines.rt:171:9
-none-requires : tie.Need-none-requires Inv-loop μ-loop
-none-requires c κs = ?
+  abbrev entry : tie.Start Inv-loop μ-loop
+  entry = head .before .before .before .before .before
 
--- src/lines.rt:172:9
-fresh-requires-2 : tie.Need-fresh-requires-2 Inv-loop μ-loop
-fresh-requires-2 c κs = ?
+  -- the list keeps its length
+  same : length (c .run-turn .last .0) ≡ length (entry .args .list .now)
+  same = c .run-turn .kept .0 ∙ head .loop .inv .kept
 
--- src/lines.rt:175:5
-loop-holds : tie.Need-loop-holds Inv-loop μ-loop
-loop-holds c = ?
+  -- what comes next lies further on
+  beyond : {n : Next} → c .run-turn .result .next ≡ n → Comes (Beyond (entry .args .text .now) (head .loop .at)) n
+  beyond e = comes-at (entry .args .job) (entry .args .list .now) (entry .args .text .now) (head .loop .macros) (head .loop .inv) (c .run-turn .kept .0) (c .run-turn .ensures) e
 
--- src/lines.rt:176:13
-run-turn-requires : tie.Need-run-turn-requires Inv-loop μ-loop
-run-turn-requires c κs = ?
-
--- src/lines.rt:182:27
-enum-known-next : tie.Need-enum-known-next Inv-loop μ-loop
-enum-known-next c = ?
-
--- src/lines.rt:183:56
-fresh-requires-3 : tie.Need-fresh-requires-3 Inv-loop μ-loop
-fresh-requires-3 c κs = ?
-
--- src/lines.rt:183:17
-refused-requires : tie.Need-refused-requires Inv-loop μ-loop
-refused-requires c κs = ?
-
--- src/lines.rt:183:17
-same-length : tie.Need-same-length Inv-loop μ-loop
-same-length c = ?
-
--- src/lines.rt:183:17
 returns : tie.Need-returns Inv-loop μ-loop
-returns c = ?
+returns c =
+    let n = c .before .before .before in
+    let t = n .before .before .before .before .before in
+    let e = entry t in
+    rw (c .refused .ensures)
+    (turn-refused (e .args .job) (e .args .list .now) (e .args .text .now) (head t .loop .macros) (head t .loop .inv) (t .run-turn .kept .0) (t .run-turn .ensures) (n .next .given .1) (c .before .fresh3 .result))
 
--- src/lines.rt:185:24
-enum-known-next-2 : tie.Need-enum-known-next-2 Inv-loop μ-loop
-enum-known-next-2 c = ?
-
--- src/lines.rt:175:5
-loop-less : tie.Need-loop-less Inv-loop μ-loop
-loop-less c = ?
-
--- src/lines.rt:175:5
 loop-again : tie.Need-loop-again Inv-loop μ-loop
-loop-again c = ?
+loop-again c =
+    let n = c .before in
+    let t = n .before .before .before .before .before in
+    let e = entry t in
+    turn-line (e .args .job) (e .args .list .now) (e .args .text .now) (head t .loop .macros) (head t .loop .inv) (t .run-turn .kept .0) (t .run-turn .ensures) (n .next2 .given .1)
 
--- src/lines.rt:189:23
-enum-known-next-3 : tie.Need-enum-known-next-3 Inv-loop μ-loop
-enum-known-next-3 c = ?
+-- ---- A block that runs stored bodies
 
--- src/lines.rt:190:21
-run-called-requires : tie.Need-run-called-requires Inv-loop μ-loop
-run-called-requires c κs = ?
-
--- src/lines.rt:192:40
-enum-known-status : tie.Need-enum-known-status Inv-loop μ-loop
-enum-known-status c = ?
-
--- src/lines.rt:193:60
-fresh-requires-4 : tie.Need-fresh-requires-4 Inv-loop μ-loop
-fresh-requires-4 c κs = ?
-
--- src/lines.rt:193:21
-refused-requires-2 : tie.Need-refused-requires-2 Inv-loop μ-loop
-refused-requires-2 c κs = ?
-
--- src/lines.rt:193:21
-same-length-2 : tie.Need-same-length-2 Inv-loop μ-loop
-same-length-2 c = ?
-
--- src/lines.rt:193:21
 returns-2 : tie.Need-returns-2 Inv-loop μ-loop
-returns-2 c = ?
+returns-2 c =
+    let s = c .before .before .before in
+    let r = s .before .before .before in
+    let f = r .before .before .before in
+    let n = f .next3 .given in
+    let t = f .before .before .before .before .before in
+    let e = entry t in
+    rw (c .refused2 .ensures)
+    (block-refused (e .args .job) (e .args .list .now) (e .args .text .now) (head t .loop .macros) (head t .loop .inv) (t .run-turn .kept .0) (t .run-turn .ensures)
+    (blockOf (n .0 .0)) (n .0 .1 .0) (n .0 .1 .1 .0) (n .1) (beyond t (n .1)) refl (r .run-called .ensures (t .run-turn .result .stage) (n .0 .1 .0)) (s .status .given .1) (c .before .fresh4 .result))
 
-enum-told : tie.Need-enum-told Inv-loop μ-loop
-enum-told c = ?
-
--- src/lines.rt:175:5
-loop-less-2 : tie.Need-loop-less-2 Inv-loop μ-loop
-loop-less-2 c = ?
-
--- src/lines.rt:175:5
 loop-again-2 : tie.Need-loop-again-2 Inv-loop μ-loop
-loop-again-2 c = ?
+loop-again-2 c =
+    let r = c .before .before .before .before in
+    let f = r .before .before .before in
+    let n = f .next3 .given in
+    let t = f .before .before .before .before .before in
+    let e = entry t in
+    block-passed (e .args .job) (e .args .list .now) (e .args .text .now) (head t .loop .macros) (head t .loop .inv) (t .run-turn .kept .0) (t .run-turn .ensures)
+    (blockOf (n .0 .0)) (n .0 .1 .0) (n .0 .1 .1 .0) (n .1) (beyond t (n .1)) refl (r .run-called .ensures (t .run-turn .result .stage) (n .0 .1 .0)) (c .before .enum-told .given .1) (r .run-called .kept .0) refl
 
--- src/lines.rt:199:24
-enum-known-next-4 : tie.Need-enum-known-next-4 Inv-loop μ-loop
-enum-known-next-4 c = ?
+-- ---- A U line
 
--- src/lines.rt:201:60
-add-open-body : tie.Need-add-open-body Inv-loop μ-loop
-add-open-body c = ?
+-- what it leaves
+opened : (c : tie.After-open-body Inv-loop μ-loop) → let f = c .before .before .before in let n = f .next4 .given in let r = f .before .before .before .before .before .run-turn in
+    Ran hitsOfProgram (r .result .setup .job) (c .open-body .result .status) (withStore (at (r .result) (head (f .before .before .before .before .before) .loop .macros)) (withStored (c .open-body .result .macros) (c .open-body .result .progress)))
+    (lent (r .last .0)) (lent (c .open-body .last .0)) (r .result .progress .hits)
+    (carried (limits (r .result .setup .job)) (entry (f .before .before .before .before .before) .args .text .now) (n .0 .1 .0) (n .0 .1 .1 .0) (Block.Outside (Outside.Open (n .0 .0))) (at (r .result) (head (f .before .before .before .before .before) .loop .macros)))
+unfolding carryOut carryOutside
+opened c =
+    let f = c .before .before .before in
+    let n = f .next4 .given in
+    let t = f .before .before .before .before .before in
+    let r = t .run-turn .result in
+    let text = entry t .args .text .now in
+    let m = head t .loop .macros in
+    ran-leaving (withStore (at r m)) (λ x. refl) (openBody (limits (r .setup .job)) text (n .0 .0) (n .0 .1 .0 + 1) (n .0 .1 .1 .0) (lines (drop (n .0 .1 .0 + 1) text)) (r .setup) (withStored m (r .progress))) (c .open-body .ensures)
 
--- src/lines.rt:200:21
-open-body-requires : tie.Need-open-body-requires Inv-loop μ-loop
-open-body-requires c κs = ?
-
--- src/lines.rt:203:40
-enum-known-status-2 : tie.Need-enum-known-status-2 Inv-loop μ-loop
-enum-known-status-2 c = ?
-
--- src/lines.rt:204:60
-fresh-requires-5 : tie.Need-fresh-requires-5 Inv-loop μ-loop
-fresh-requires-5 c κs = ?
-
--- src/lines.rt:204:21
-refused-requires-3 : tie.Need-refused-requires-3 Inv-loop μ-loop
-refused-requires-3 c κs = ?
-
--- src/lines.rt:204:21
-same-length-3 : tie.Need-same-length-3 Inv-loop μ-loop
-same-length-3 c = ?
-
--- src/lines.rt:204:21
 returns-3 : tie.Need-returns-3 Inv-loop μ-loop
-returns-3 c = ?
+returns-3 c =
+    let s = c .before .before .before in
+    let r = s .before .before .before in
+    let f = r .before .before .before in
+    let n = f .next4 .given in
+    let t = f .before .before .before .before .before in
+    let e = entry t in
+    rw (c .refused3 .ensures)
+    (block-refused (e .args .job) (e .args .list .now) (e .args .text .now) (head t .loop .macros) (head t .loop .inv) (t .run-turn .kept .0) (t .run-turn .ensures)
+    (Block.Outside (Outside.Open (n .0 .0))) (n .0 .1 .0) (n .0 .1 .1 .0) (n .1) (beyond t (n .1)) refl (opened r) (s .status2 .given .1) (c .before .fresh5 .result))
 
-enum-told-2 : tie.Need-enum-told-2 Inv-loop μ-loop
-enum-told-2 c = ?
-
--- src/lines.rt:175:5
-loop-less-3 : tie.Need-loop-less-3 Inv-loop μ-loop
-loop-less-3 c = ?
-
--- src/lines.rt:175:5
 loop-again-3 : tie.Need-loop-again-3 Inv-loop μ-loop
-loop-again-3 c = ?
+loop-again-3 c =
+    let r = c .before .before .before .before .before in
+    let f = r .before .before .before in
+    let n = f .next4 .given in
+    let t = f .before .before .before .before .before in
+    let e = entry t in
+    block-passed (e .args .job) (e .args .list .now) (e .args .text .now) (head t .loop .macros) (head t .loop .inv) (t .run-turn .kept .0) (t .run-turn .ensures)
+    (Block.Outside (Outside.Open (n .0 .0))) (n .0 .1 .0) (n .0 .1 .1 .0) (n .1) (beyond t (n .1)) refl (opened r) (c .before .before .enum-told2 .given .1) (r .open-body .kept .0) refl
 
--- src/lines.rt:214:5
-passed-requires : tie.Need-passed-requires Inv-loop μ-loop
-passed-requires c κs = ?
-
--- src/lines.rt:165:1
-same-length-4 : tie.Need-same-length-4 Inv-loop μ-loop
-same-length-4 c = ?
-
--- src/lines.rt:165:1
 returns-4 : tie.Need-returns-4 Inv-loop μ-loop
-returns-4 c = ?
+returns-4 c =
+    let l = c .before in
+    let e = l .before .before .before .before .before .before in
+    rw (c .passed .ensures) (underway-end (e .args .job) (e .args .list .now) (e .args .text .now) (l .before .loop .inv) (l .loop-test .left))
 
 pub run-text-spec : {M : Type 1} → statement M
 run-text-spec =
@@ -172,40 +132,30 @@ run-text-spec =
     (tie.spec
     Inv-loop
     μ-loop
-    fresh-requires
-    none-requires
-    fresh-requires-2
-    loop-holds
-    run-turn-requires
-    enum-known-next
-    fresh-requires-3
-    refused-requires
-    same-length
+    (λ c κs. search needs) (λ c κs. search needs) (λ c κs. search needs)
+    (λ c. let e = c .before .before .before .before in rw (c .before .before .fresh .ensures, c .before .none .ensures, c .fresh2 .ensures) (underway-start (e .args .job) (e .args .list .now) (e .args .text .now)))
+    (λ c κs. let p = c .before .before in record { short = p .before .before .before .before .before .pre; inside = c .before .loop-test .taken; numbered = p .loop .inv .numbered })
+    (λ c. search needs) (λ c κs. search needs) (λ c κs. search needs)
+    (λ c. same (c .before .before .before .before .before .before .before .before))
     returns
-    enum-known-next-2
-    loop-less
+    (λ c. search needs)
+    (λ c. let n = c .before in let b = beyond (n .before .before .before .before .before) (n .next2 .given .1) in omega arith)
     loop-again
-    enum-known-next-3
-    run-called-requires
-    enum-known-status
-    fresh-requires-4
-    refused-requires-2
-    same-length-2
+    (λ c. search needs) (λ c κs. search needs) (λ c. search needs) (λ c κs. search needs) (λ c κs. search needs)
+    (λ c. let r = c .before .before .before .before .before .before in r .run-called .kept .0 ∙ same (r .before .before .before .before .before .before .before .before))
     returns-2
-    enum-told
-    loop-less-2
+    (λ c. search needs)
+    (λ c. let f = c .before .before .before .before .before .before .before in let b = beyond (f .before .before .before .before .before) (f .next3 .given .1) in omega arith)
     loop-again-2
-    enum-known-next-4
-    add-open-body
-    open-body-requires
-    enum-known-status-2
-    fresh-requires-5
-    refused-requires-3
-    same-length-3
+    (λ c. search needs)
+    (λ c. let f = c .before .before in let b = beyond (f .before .before .before .before .before) (f .next4 .given .1) in omega (arith, entry (f .before .before .before .before .before) .pre))
+    (λ c κs. let f = c .before .before in let b = beyond (f .before .before .before .before .before) (f .next4 .given .1) in omega (arith, entry (f .before .before .before .before .before) .pre))
+    (λ c. search needs) (λ c κs. search needs) (λ c κs. search needs)
+    (λ c. let r = c .before .before .before .before .before .before in r .open-body .kept .0 ∙ same (r .before .before .before .before .before .before .before .before))
     returns-3
-    enum-told-2
-    loop-less-3
+    (λ c. search needs)
+    (λ c. let f = c .before .before .before .before .before .before .before .before in let b = beyond (f .before .before .before .before .before) (f .next4 .given .1) in omega arith)
     loop-again-3
-    passed-requires
-    same-length-4
+    (λ c κs. search needs)
+    (λ c. c .before .before .loop .inv .kept)
     returns-4)
