@@ -1,3 +1,6 @@
-pub mod Direct
-pub mod SettingUp
-pub mod StoredBodies
+-- Laws that the functions' proofs cite.
+pub mod Turns
+pub mod Placed
+pub mod RunFrom
+pub mod Stretches
+pub mod Underway

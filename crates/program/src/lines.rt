@@ -1,177 +1,229 @@
 use crate::outside;
+use crate::turn::Called;
+use crate::turn::Next;
+use crate::turn::Turn;
 use aries::block::Decoded;
-use aries::block::Measure;
+use aries::job::Job;
+use aries::macros::Macros;
 use aries::refusal;
 use aries::setup::Advance;
 use aries::setup::Program;
+use aries::setup::Setup;
 use aries::setup::Stage;
+use aries::state::Outcome;
 use aries::state::Progress;
 use aries::state::Status;
-use bodies::stretch::run_stretch;
+use stretches::Stop;
+use stretches::run_stretch;
 ghost use mathlib.Core.Path.{_≡_};
-ghost use Prim.Native.Nat.{ℕ, _≤_, _<_, _+_, _-_};
-ghost use lib.ListN.{length, drop, take, getD};
-ghost use lib.Dec.{eqb, ltb};
-ghost use Rattle.aries.specs.Bodies.{startsWith};
-ghost use Rattle.aries.specs.Judging.{lent, mostBlocks};
-ghost use Rattle.aries.specs.Letters.{letterV};
-ghost use Rattle.aries.specs.Macros.{Within, begun};
-ghost use Rattle.aries.specs.Moves.{withState, measuring};
-ghost use Rattle.aries.specs.Program.{runBlockOutside, runLineOutside, runFrom, passOver};
-ghost use Rattle.aries.specs.Runs.{Advanced};
-ghost use Rattle.aries.specs.Setup.{freshProgram};
-ghost use Rattle.aries.specs.Test.{either, pick};
+ghost use Prim.Native.Nat.{_≤_, _<_, _+_};
+ghost use lib.ListN.{length, drop};
+ghost use Rattle.aries.specs.declared.setup.Stage.the-variants.{Running, Storing};
+ghost use Rattle.aries.specs.Program.{freshProgram, runFrom};
+ghost use Rattle.aries.specs.Runs.{Lent, lent, Advanced};
 ghost use Rattle.aries.specs.Text.{lines};
-ghost use Rattle.aries.specs.declared.setup.Stage.the-variants.{Running};
-ghost use Rattle.bodies.specs.Stretches.{AtBlock, ApartIn};
-ghost use Rattle.program.specs.Direct.{Reaches};
+ghost use Rattle.program.specs.Turns.{Alone, InText, Turns, Runs};
 
 const LETTER_V: u8 = b'V';
 
-// Whether another block may come, by its first byte: V lines are not counted.
-fn may_come(first: u8, blocks: u32) -> bool
-    ensures { λ r. ⌜ r ≡ either (eqb first letterV) (ltb blocks mostBlocks) ⌝ }
-{
-    if first == LETTER_V {
-        return true;
-    }
-    blocks < bodies::MOST_BLOCKS
-}
-
-// A block begins, by its first byte; a V line is not counted.
-fn begin(first: u8, progress: Progress, measure: Measure) -> Progress
-    requires { ⌜ ((first ≡ letterV → ⊥) → progress .blocks < mostBlocks) ⌝ }
-    ensures { λ r. ⌜ r ≡ pick (eqb first letterV) (withState progress (measuring (progress .state) measure)) (begun progress measure) ⌝ }
-{
-    if first == LETTER_V {
-        let state = progress.state;
-        return progress.with_state(state.measuring(measure));
-    }
-    progress.begun(measure)
-}
-
-// The block outside bodies that starts at a place of the text and ends at another. While the program runs it is not
-// ordinary.
-fn run_block(
-    list: &mut [i32],
+// The next block before G92 or after G50: 3, 4 to 6, and then its place.
+fn run_alone(
     text: &[u8],
     at: usize,
-    end: usize,
     line: u64,
-    program: Program,
-) -> Advance
-    requires { ⌜ (Within (program .setup .macros) (length (now text))) × ((length (now text) ≤ 60000) × ((line < 65535) × ((at < end) × (end ≤ length (now text))))) ⌝ }
-    requires { ⌜ (program .stage ≡ Running → ApartIn (take (end - at) (drop at (now text))) line (program .progress .blocks)) ⌝ }
-    ensures { λ r. ⌜ Advanced r (now (list .entry)) (now (list .exit)) (program .progress .hits) (runBlockOutside (lent (length (now (list .entry)))) (now (text .entry)) (end + 1) line (take (end - at) (drop at (now (text .entry)))) (lines (drop (end + 1) (now (text .entry)))) program) ⌝ }
+    stage: Stage,
+    setup: Setup,
+    progress: Progress,
+) -> Turn
+    requires { ⌜ (InText (now text) at line) × (Alone stage) ⌝ }
+    ensures { λ r. ⌜ ((l : Lent) → Turns r (now (text .entry)) at line stage setup progress l l) ⌝ }
 {
-    let progress = program.progress;
-    let first = text[at];
-    if !may_come(first, progress.blocks) {
-        return Advance::refused(refusal::BLOCKS_SPENT, line, program);
+    let start = text::next_block(text, at);
+    let place = line + ((start - at) as u64);
+    if text.len() <= start {
+        return Turn {
+            stage,
+            setup,
+            progress,
+            next: Next::Line(start, place),
+        };
     }
-    let decoded = decode::decode(&text[at..end], line);
+    let counted = text[start] != LETTER_V;
+    let may_come = !counted | (progress.blocks < stretches::MOST_BLOCKS);
+    if !may_come {
+        return Turn::running(setup, progress, Next::Refused(refusal::BLOCKS_SPENT, place));
+    }
+    let decoded = decode::decode(text, start);
     match decoded {
-        Decoded::Refused(number, place) => Advance::refused(number, place, program),
-        Decoded::Instruction(instruction) => {
+        Decoded::Refused(number) => Turn::running(setup, progress, Next::Refused(number, place)),
+        Decoded::Instruction(instruction, end) => {
             let block = instruction.block;
             let measure = instruction.measure;
-            let stage = program.stage;
-            if !outside::in_place(stage, block) {
-                return Advance::refused(refusal::OUT_OF_PLACE, line, program);
-            }
-            let begun = program.with_progress(begin(first, progress, measure));
-            outside::carry_out(list, text, end + 1, line, block, begun)
+            let begun = progress.begun(counted, measure);
+            outside::start(end, place, block, stage, setup, begun)
         }
     }
 }
 
-// A line outside bodies that is not blank: between a U line and its V line it is passed over.
-fn run_line(
+// A line between a U line and its V line is passed over; the V line ends that.
+fn pass_over(text: &[u8], at: usize, line: u64, setup: Setup, progress: Progress) -> Turn
+    requires { ⌜ InText (now text) at line ⌝ }
+    ensures { λ r. ⌜ ((l : Lent) → Turns r (now (text .entry)) at line Storing setup progress l l) ⌝ }
+{
+    let next = Next::Line(text::line_end(text, at) + 1, line + 1);
+    if text[at] == LETTER_V {
+        return Turn::running(setup, progress, next);
+    }
+    Turn {
+        stage: Stage::Storing,
+        setup,
+        progress,
+        next,
+    }
+}
+
+// The direct blocks from a place on, while the program runs, and the block at which they stop.
+fn run_on(
     list: &mut [i32],
     text: &[u8],
     at: usize,
-    end: usize,
     line: u64,
-    program: Program,
-) -> Advance
-    requires { ⌜ (Within (program .setup .macros) (length (now text))) × ((length (now text) ≤ 60000) × ((line < 65535) × ((at < end) × (end ≤ length (now text))))) ⌝ }
-    requires { ⌜ (program .stage ≡ Running → ApartIn (take (end - at) (drop at (now text))) line (program .progress .blocks)) ⌝ }
-    ensures { λ r. ⌜ Advanced r (now (list .entry)) (now (list .exit)) (program .progress .hits) (runLineOutside (lent (length (now (list .entry)))) (now (text .entry)) (end + 1) line (take (end - at) (drop at (now (text .entry)))) (lines (drop (end + 1) (now (text .entry)))) program) ⌝ }
+    setup: Setup,
+    progress: Progress,
+) -> Turn
+    requires { ⌜ InText (now text) at line ⌝ }
+    ensures { λ r. ⌜ Turns r (now (text .entry)) at line Running setup progress (lent (now (list .entry))) (lent (now (list .exit))) ⌝ }
 {
-    let stage = program.stage;
-    let Stage::Storing = stage else {
-        return run_block(list, text, at, end, line, program);
-    };
-    if text[at] == LETTER_V {
-        return Advance::passed(program.at_stage(Stage::Running));
+    let stretch = run_stretch(list, text, at, line, setup.frame(), progress);
+    let left = stretch.progress;
+    let status = stretch.status;
+    if let Status::Refused(number, place) = status {
+        return Turn::running(setup, left, Next::Refused(number, place));
     }
-    Advance::passed(program)
+    let stop = stretch.stop;
+    match stop {
+        Stop::End => Turn::running(setup, left, Next::Line(text.len(), line)),
+        Stop::Call(number, end, place) => {
+            Turn::running(setup, left, Next::Run(Called::Macro(number), end, place))
+        }
+        Stop::Outside(outside, end, place) => outside::settle(end, place, outside, setup, left),
+    }
 }
 
-// How far the lines outside bodies have come. After a refusal the program is of no account.
-struct Reached {
-    status: Status,
-    program: Program,
+// The lines from a place on up to a block that needs the stored bodies, or fewer.
+fn run_turn(
+    list: &mut [i32],
+    text: &[u8],
     at: usize,
     line: u64,
+    stage: Stage,
+    setup: Setup,
+    progress: Progress,
+) -> Turn
+    requires { ⌜ InText (now text) at line ⌝ }
+    ensures { λ r. ⌜ Turns r (now (text .entry)) at line stage setup progress (lent (now (list .entry))) (lent (now (list .exit))) ⌝ }
+{
+    match stage {
+        Stage::Running => run_on(list, text, at, line, setup, progress),
+        Stage::Storing => pass_over(text, at, line, setup, progress),
+        Stage::Fresh => run_alone(text, at, line, Stage::Fresh, setup, progress),
+        Stage::Ended => run_alone(text, at, line, Stage::Ended, setup, progress),
+    }
 }
 
-// The direct blocks that follow one another from a place of the text on, while the program runs.
-fn run_direct(list: &mut [i32], text: &[u8], at: usize, line: u64, program: Program) -> Reached
-    requires { ⌜ AtBlock (now text) at line ⌝ }
-    ensures { λ r. ⌜ Reaches (lent (length (now (list .entry)))) (now (text .entry)) at line program r (now (list .entry)) (now (list .exit)) ⌝ }
+// A block that runs stored bodies, in a line with a number. Four calls may be open.
+fn run_called(
+    list: &mut [i32],
+    text: &[u8],
+    called: Called,
+    line: u64,
+    setup: Setup,
+    macros: Macros,
+    progress: Progress,
+) -> Outcome
+    ensures { λ r. ⌜ Runs r (now (text .entry)) called line setup macros progress (lent (now (list .entry))) (lent (now (list .exit))) ⌝ }
 {
-    let stage = program.stage;
-    let Stage::Running = stage else {
-        return Reached {
-            status: Status::Passed,
-            program,
-            at,
-            line,
-        };
-    };
-    let setup = program.setup;
-    let progress = program.progress;
-    let stretch = run_stretch(list, text, at, line, setup.frame(), progress);
-    let status = stretch.status;
-    let left = stretch.progress;
-    Reached {
-        status,
-        program: program.with_progress(left),
-        at: stretch.at,
-        line: stretch.line,
+    match called {
+        Called::Macro(number) => {
+            bodies::run_body(
+                bodies::MOST_CALLS,
+                list,
+                text,
+                number,
+                line,
+                macros,
+                setup.frame(),
+                progress,
+            )
+        }
+        Called::Part(copies) => {
+            copies::copy_part(list, text, setup, macros, line, copies, progress)
+        }
     }
 }
 
 // A text without spaces, line after line up to the first refusal.
-pub fn run_text(list: &mut [i32], text: &[u8]) -> Advance
+pub fn run_text(job: Job, list: &mut [i32], text: &[u8]) -> Advance
     requires { ⌜ length (now text) ≤ 60000 ⌝ }
-    ensures { λ r. ⌜ Advanced r (now (list .entry)) (now (list .exit)) 0 (runFrom (lent (length (now (list .entry)))) (now (text .entry)) 0 1 (lines (now (text .entry))) freshProgram) ⌝ }
+    ensures { λ r. ⌜ Advanced r (lent (now (list .entry))) (lent (now (list .exit))) (freshProgram job) (λ j. runFrom j (now (text .entry)) 0 1 (lines (now (text .entry)))) ⌝ }
 {
-    let mut now = Program::fresh();
-    let mut at = text::next_block(text, 0);
-    let mut line = 1 + (at as u64);
+    let mut stage = Stage::Fresh;
+    let mut setup = Setup::fresh(job);
+    let mut macros = Macros::none();
+    let mut progress = Progress::fresh();
+    let mut at = 0;
+    let mut line = 1;
     while at < text.len() {
-        let reached = run_direct(list, text, at, line, now);
-        let left = reached.program;
-        let status = reached.status;
-        if let Status::Refused(refusal, place) = status {
-            return Advance::refused(refusal, place, left);
+        let turn = run_turn(list, text, at, line, stage, setup, progress);
+        stage = turn.stage;
+        setup = turn.setup;
+        progress = turn.progress;
+        let next = turn.next;
+        match next {
+            Next::Refused(number, place) => {
+                return Advance::refused(number, place, Program::fresh(job));
+            }
+            Next::Line(start, number) => {
+                at = start;
+                line = number;
+            }
+            Next::Run(called, end, place) => {
+                let ran = run_called(list, text, called, place, setup, macros, progress);
+                let status = ran.status;
+                if let Status::Refused(number, place) = status {
+                    return Advance::refused(number, place, Program::fresh(job));
+                }
+                progress = ran.progress;
+                at = end;
+                line = place;
+            }
+            Next::Open(number, end, place) => {
+                let opened = storing::open_body(
+                    list,
+                    text,
+                    number,
+                    end + 1,
+                    place,
+                    setup,
+                    macros,
+                    progress,
+                );
+                let status = opened.status;
+                if let Status::Refused(number, place) = status {
+                    return Advance::refused(number, place, Program::fresh(job));
+                }
+                stage = Stage::Storing;
+                macros = opened.macros;
+                progress = opened.progress;
+                at = end;
+                line = place;
+            }
         }
-        let stop = reached.at;
-        if stop == text.len() {
-            return Advance::passed(left);
-        }
-        let end = text::line_end(text, stop);
-        let number = reached.line;
-        let advance = run_line(list, text, stop, end, number, left);
-        let ended = advance.status;
-        if let Status::Refused(_, _) = ended {
-            return advance;
-        }
-        now = advance.program;
-        at = text::next_block(text, end);
-        line = number + ((at - end) as u64);
     }
-    Advance::passed(now)
+    Advance::passed(Program {
+        stage,
+        setup,
+        macros,
+        progress,
+    })
 }

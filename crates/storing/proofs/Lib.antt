@@ -1,5 +1,6 @@
--- Laws that the functions' proofs cite, and what a line of the program keeps.
+-- Laws that the functions' proofs cite.
+pub mod Tags
+pub mod FirstByte
 pub mod Closing
 pub mod Sizes
-pub mod Within
 pub mod Opening

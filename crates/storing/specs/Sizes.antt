@@ -21,6 +21,6 @@ sizeOf none = Missing
 sizeOf (some n) = Bytes n
 
 -- the answer, and that a body that is found ends within the text, before its V line
-pub record Sized (text : List ℕ) (from : ℕ) (answer size : Size) : Type 0 where
-  pub same : answer ≡ size
+pub record Sized (text : List ℕ) (from : ℕ) (answer : Size) (size : Option ℕ) : Type 0 where
+  pub same : answer ≡ sizeOf size
   pub inside : (n : ℕ) → answer ≡ Bytes n → from + n < length text

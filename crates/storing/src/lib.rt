@@ -1,50 +1,53 @@
 // U lines: where the body ends, its first run, and storing it.
-use aries::block::Judged;
-use aries::block::Kind;
+use aries::block::Block;
+use aries::block::Decoded;
+use aries::block::Outside;
+use aries::macros::Macros;
 use aries::refusal;
-use aries::setup::Advance;
-use aries::setup::Program;
+use aries::setup::Setup;
 use aries::setup::Sheet;
 use aries::state::Outcome;
-use blocks::lookup::size_of;
-use blocks::lookup::word_at;
+use aries::state::Progress;
+use aries::state::Status;
 ghost use mathlib.Core.Path.{_≡_};
-ghost use Prim.Native.Nat.{_-_, _≤_, _<_};
+ghost use Prim.Native.Nat.{_≤_, _<_};
 ghost use lib.ListN.{length, drop};
-ghost use Rattle.aries.specs.Bodies.{isOwnClose, bodySize};
-ghost use Rattle.aries.specs.Judging.{lent};
-ghost use Rattle.aries.specs.Macros.{Within};
-ghost use Rattle.aries.specs.Runs.{Carried, Advanced};
-ghost use Rattle.aries.specs.Setup.{runsFirst, firstRun, openBody};
+ghost use Rattle.aries.specs.Bodies.{isOwnClose, bodySize, runsFirst, firstRun, withStored, openBody};
+ghost use Rattle.aries.specs.Runs.{lent, Carried};
+ghost use Rattle.aries.specs.Setup.{ordinaryFrame};
 ghost use Rattle.aries.specs.Text.{lines};
-ghost use Rattle.storing.specs.Sizes.{sizeOf, Sized, marks};
+ghost use Rattle.text.specs.Lines.{lineAt};
+ghost use Rattle.storing.specs.Sizes.{marks, Sized};
+ghost use Rattle.storing.specs.Opening.{Opens};
 
 // The most characters that stored bodies may have.
-pub const MOST_CHARACTERS: usize = 3_100;
+const MOST_CHARACTERS: usize = 3_100;
 
 // The last macro that runs when it is stored.
 const LAST_RUN: u8 = 59;
 
 // The bytes of a body, if its V line was found.
-pub enum Size {
+enum Size {
     Bytes(usize),
     Missing,
 }
 
-// Whether a line is the V line of a macro.
-fn is_own_close(number: u8, line: &[u8]) -> bool
-    ensures { λ r. ⌜ r ≡ isOwnClose number (now (line .entry)) ⌝ }
+// Whether the line at a place is the V line of a macro.
+fn is_own_close(number: u8, text: &[u8], at: usize) -> bool
+    ensures { λ r. ⌜ r ≡ isOwnClose number (lineAt (now (text .entry)) at) ⌝ }
 {
-    let mut forms = [0; 26];
-    let mut numbers = [0; 26];
-    let judged = decode::judge(line, &mut forms, &mut numbers);
-    let Judged::Of(kind, _) = judged else {
+    let decoded = decode::decode(text, at);
+    let Decoded::Instruction(instruction, _) = decoded else {
         return false;
     };
-    let Kind::LetterV = kind else {
+    let block = instruction.block;
+    let Block::Outside(outside) = block else {
         return false;
     };
-    size_of(word_at(&forms, &numbers, b'V')) == (number as u32)
+    let Outside::Close(closed) = outside else {
+        return false;
+    };
+    closed == number
 }
 
 // Whether a line that starts with a byte is a U or V line.
@@ -58,19 +61,18 @@ fn is_mark(first: u8) -> bool
 }
 
 // The bytes from a place of the text to the next U or V line, if that is the V line of a macro.
-pub fn body_size(number: u8, text: &[u8], from: usize) -> Size
-    ensures { λ r. ⌜ Sized (now (text .entry)) from r (sizeOf (bodySize number (lines (drop from (now (text .entry)))))) ⌝ }
+fn body_size(number: u8, text: &[u8], from: usize) -> Size
+    ensures { λ r. ⌜ Sized (now (text .entry)) from r (bodySize number (lines (drop from (now (text .entry))))) ⌝ }
 {
     let mut at = from;
     while at < text.len() {
-        let end = text::line_end(text, at);
         if is_mark(text[at]) {
-            if is_own_close(number, &text[at..end]) {
+            if is_own_close(number, text, at) {
                 return Size::Bytes(at - from);
             }
             return Size::Missing;
         }
-        at = end + 1;
+        at = text::line_end(text, at) + 1;
     }
     Size::Missing
 }
@@ -85,33 +87,29 @@ fn runs_first(number: u8, sheet: Sheet) -> bool
     }
 }
 
-// The first run of a body that is being stored, where there is one.
+// The first run of a body that is being stored, where there is one; its first line has a number.
 fn first_run(
     list: &mut [i32],
     text: &[u8],
     number: u8,
-    start: usize,
-    end: usize,
-    line: u64,
-    program: Program,
+    body: &[u8],
+    first: u16,
+    setup: Setup,
+    macros: Macros,
+    progress: Progress,
 ) -> Outcome
-    requires { ⌜ (Within (program .setup .macros) (length (now text))) × ((start ≤ end) × ((end ≤ length (now text)) × (line < 65535))) ⌝ }
-    ensures { λ r. ⌜ Carried r (now (list .entry)) (now (list .exit)) (program .progress .hits) (firstRun (lent (length (now (list .entry)))) (now (text .entry)) number start (end - start) line program) ⌝ }
+    ensures { λ r. ⌜ Carried r (ordinaryFrame setup) (lent (now (list .entry))) (lent (now (list .exit))) progress (λ j. firstRun j (now (text .entry)) macros number (record { line = first; bytes = now (body .entry) }) setup) ⌝ }
 {
-    let setup = program.setup;
-    let progress = program.progress;
     let sheet = setup.sheet;
     if !runs_first(number, sheet) {
         return Outcome::passed(progress);
     }
-    let macros = setup.macros;
-    let first = (line + 1) as u16;
-    let opening = bodies::first_block(&text[start..end], first);
-    bodies::run_body(
+    let opening = bodies::first_block(body, first);
+    bodies::run_blocks(
         bodies::FURTHER_CALLS,
         list,
         text,
-        &text[start..end],
+        body,
         opening,
         macros,
         setup.frame(),
@@ -119,36 +117,52 @@ fn first_run(
     )
 }
 
-// A U line, in a line with a number; its body starts at a place of the text.
+// What a U line leaves. After a refusal all but the status is of no account.
+pub struct Opened {
+    pub status: Status,
+    pub macros: Macros,
+    pub progress: Progress,
+}
+
+// The U line of a macro, in a line with a number; its body starts at a place of the text.
 pub fn open_body(
     list: &mut [i32],
     text: &[u8],
     number: u8,
     start: usize,
     line: u64,
-    program: Program,
-) -> Advance
-    requires { ⌜ (Within (program .setup .macros) (length (now text))) × ((length (now text) ≤ 60000) × (line < 65535)) ⌝ }
-    ensures { λ r. ⌜ Advanced r (now (list .entry)) (now (list .exit)) (program .progress .hits) (openBody (lent (length (now (list .entry)))) (now (text .entry)) number start line (lines (drop start (now (text .entry)))) program) ⌝ }
+    setup: Setup,
+    macros: Macros,
+    progress: Progress,
+) -> Opened
+    requires { ⌜ (length (now text) ≤ 60000) × (line < 65535) ⌝ }
+    ensures { λ r. ⌜ Opens r (setup .job) (lent (now (list .entry))) (lent (now (list .exit))) (withStored macros progress) (λ j. openBody j (now (text .entry)) number start line (lines (drop start (now (text .entry)))) setup) ⌝ }
 {
     let found = body_size(number, text, start);
     let Size::Bytes(size) = found else {
-        return Advance::refused(refusal::NOT_CLOSED, line, program);
+        return Opened {
+            status: Status::Refused(refusal::NOT_CLOSED, line),
+            macros,
+            progress,
+        };
     };
     let end = start + size;
-    let setup = program.setup;
-    let macros = setup.macros;
-    let kept = macros.storing(number, start as u16, end as u16, (line + 1) as u16);
+    let first = (line + 1) as u16;
+    let kept = macros.storing(number, start as u16, end as u16, first);
     if MOST_CHARACTERS < kept.characters() {
-        return Advance::refused(refusal::STORE_FULL, line, program);
+        return Opened {
+            status: Status::Refused(refusal::STORE_FULL, line),
+            macros,
+            progress,
+        };
     }
-    let progress = program.progress;
-    let stored = program.stored(kept, progress);
-    let ran = first_run(list, text, number, start, end, line, program);
+    let body = &text[start..end];
+    let ran = first_run(list, text, number, body, first, setup, macros, progress);
     let status = ran.status;
     let after = ran.progress;
-    Advance {
+    Opened {
         status,
-        program: stored.with_progress(after),
+        macros: kept,
+        progress: after,
     }
 }

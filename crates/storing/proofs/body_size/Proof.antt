@@ -1,11 +1,15 @@
--- The invariant: from here on the body is shorter by the bytes that were passed over. Assumes nothing.
-use mathlib.Core.Path.{refl, sym, _∙_}
-use mathlib.Core.Option.{none, some}
-use Prim.Native.Nat.{_+_, _-_, _≤_}
+-- The invariant: the size is that of the lines passed and of what follows from here.
+use mathlib.Core.Path.{_≡_, sym, ap, subst, _∙_}
+use mathlib.Core.Bool.{Bool, true, false}
+use mathlib.Core.List.{List}
+use Prim.Native.Nat.{ℕ, _+_, _-_, _≤_, _<_}
 use native.Mathlib.Omega.{arith}
 use borrow.Author.Needs.{needs}
-use lib.ListN.{length}
-use Rattle.storing.proofs.Sizes.{From, from-start, from-past, from-own, from-mark, from-other, sized}
+use lib.ListN.{length, getD, drop}
+use Rattle.text.specs.Lines.{lineEnd}
+use Rattle.text.proofs.Lines.{line-inside}
+use Rattle.storing.specs.Sizes.{marks}
+use Rattle.storing.proofs.Sizes.{From, from-start, from-other, sized-past, sized-own, sized-other}
 use Rattle.storing.proofs.body_size.Statement.{statement}
 use Rattle.storing.proofs.body_size.Tie as tie
 
@@ -13,75 +17,46 @@ abbrev Inv-loop : tie.InvT-loop
 Inv-loop number text from at₀ at = (from ≤ at) × From number text from at
 
 abbrev μ-loop : tie.MeasureT-loop
-μ-loop number text from at₀ at = length text + 1 - at
+μ-loop number text from at₀ at = length text - at
 
-loop-holds : tie.Need-loop-holds Inv-loop μ-loop
-loop-holds c = let a = c .before .args in (search needs, from-start (a .number) (a .text .now) (a .from))
-
-line-end-requires : tie.Need-line-end-requires Inv-loop μ-loop
-line-end-requires c κs = search needs
-
-shared-slice-read-is-mark : tie.Need-shared-slice-read-is-mark Inv-loop μ-loop
-shared-slice-read-is-mark c = search needs
-
-is-mark-requires : tie.Need-is-mark-requires Inv-loop μ-loop
-is-mark-requires c κs = search needs
-
-sub-is-own-close : tie.Need-sub-is-own-close Inv-loop μ-loop
-sub-is-own-close c = search needs
-
-part-is-own-close-start : tie.Need-part-is-own-close-start Inv-loop μ-loop
-part-is-own-close-start c = search needs
-
-part-is-own-close-end : tie.Need-part-is-own-close-end Inv-loop μ-loop
-part-is-own-close-end c = search needs
-
-is-own-close-requires : tie.Need-is-own-close-requires Inv-loop μ-loop
-is-own-close-requires c κs = search needs
-
-sub-t16 : tie.Need-sub-t16 Inv-loop μ-loop
-sub-t16 c = search needs
+-- a line ends within the text
+ends : (c : tie.After-line-end Inv-loop μ-loop) → c .line-end .result ≤ length (c .before .before .before .before .before .before .before .args .text .now)
+ends c =
+    let p = c .before .before .before .before .before in
+    let h : p .loop .at ≤ length (p .before .before .args .text .now) = omega arith in
+    omega (arith, line-inside (p .before .before .args .text .now) (p .loop .at) h, c .line-end .ensures)
 
 returns : tie.Need-returns Inv-loop μ-loop
 returns c =
-    let a = c .before .before .before .before .before .before .before .before .before .before .args in
-    let p = c .before .before .before .before .before .before .before .before .loop in
-    let e = c .before .before .before .before .before .before .line-end in
-    let h = c .before .before .before .before .before .before .before .loop-test .taken in
-    let m = sym (c .before .before .before .before .is-mark .ensures) ∙ c .before .before .before .if1 .taken in
-    let o = sym (c .before .is-own-close .ensures) ∙ c .if2 .taken in
-    sized (a .number) (a .text .now) (a .from) _ (some (p .at - a .from)) (from-own (a .number) (a .text .now) (a .from) (p .at) (e .result) h (e .ensures .0) (p .inv .1) m o) refl
+    let m = c .before .before .before in
+    let p = m .before .before .before in
+    let a = p .before .before .args in
+    sized-own (a .number) (a .text .now) (a .from) (p .loop .at) (m .before .before .loop-test .taken) (p .loop .inv .1)
+    (sym (m .is-mark .ensures) ∙ c .before .before .if1 .taken) (p .loop .inv .0) (sym (c .before .is-own-close .ensures) ∙ c .if2 .taken)
 
 returns-2 : tie.Need-returns-2 Inv-loop μ-loop
 returns-2 c =
-    let a = c .before .before .before .before .before .before .before .before .before .before .args in
-    let p = c .before .before .before .before .before .before .before .before .loop in
-    let e = c .before .before .before .before .before .before .line-end in
-    let h = c .before .before .before .before .before .before .before .loop-test .taken in
-    let m = sym (c .before .before .before .before .is-mark .ensures) ∙ c .before .before .before .if1 .taken in
-    let o = sym (c .before .is-own-close .ensures) ∙ c .if2 .left in
-    sized (a .number) (a .text .now) (a .from) _ none (from-mark (a .number) (a .text .now) (a .from) (p .at) (e .result) h (e .ensures .0) (p .inv .1) m o) refl
-
-add-at : tie.Need-add-at Inv-loop μ-loop
-add-at c = search needs
-
-loop-less : tie.Need-loop-less Inv-loop μ-loop
-loop-less c = search needs
+    let m = c .before .before .before in
+    let p = m .before .before .before in
+    let a = p .before .before .args in
+    sized-other (a .number) (a .text .now) (a .from) (p .loop .at) (m .before .before .loop-test .taken) (p .loop .inv .1)
+    (sym (m .is-mark .ensures) ∙ c .before .before .if1 .taken) (sym (c .before .is-own-close .ensures) ∙ c .if2 .left)
 
 loop-again : tie.Need-loop-again Inv-loop μ-loop
 loop-again c =
-    let a = c .before .before .before .before .before .before .before .args in
-    let p = c .before .before .before .before .before .loop in
-    let e = c .before .before .before .line-end in
-    let h = c .before .before .before .before .loop-test .taken in
-    let m = sym (c .before .is-mark .ensures) ∙ c .if1 .left in
-    (omega arith, from-other (a .number) (a .text .now) (a .from) (p .at) (e .result) h (e .ensures .0) (p .inv .1) (p .inv .0) m)
+    let m = c .before .before in
+    let p = m .before .before .before in
+    let a = p .before .before .args in (
+      omega (arith, c .line-end .ensures),
+      rw (c .line-end .ensures) (from-other (a .number) (a .text .now) (a .from) (p .loop .at) (m .before .before .loop-test .taken) (p .loop .inv .1)
+          (p .loop .inv .0) (sym (m .is-mark .ensures) ∙ c .before .if1 .left)),
+    )
 
 returns-3 : tie.Need-returns-3 Inv-loop μ-loop
 returns-3 c =
-    let a = c .before .before .before .args in
-    let p = c .before .loop in
-    sized (a .number) (a .text .now) (a .from) _ none (from-past (a .number) (a .text .now) (a .from) (p .at) (c .loop-test .left) (p .inv .1)) refl
+    let p = c .before in
+    let a = p .before .before .args in
+    sized-past (a .number) (a .text .now) (a .from) (p .loop .at) (c .loop-test .left) (p .loop .inv .1)
 
 pub body-size-spec : {M : Type 1} → statement M
 body-size-spec =
@@ -89,18 +64,10 @@ body-size-spec =
     (tie.spec
     Inv-loop
     μ-loop
-    loop-holds
-    line-end-requires
-    shared-slice-read-is-mark
-    is-mark-requires
-    sub-is-own-close
-    part-is-own-close-start
-    part-is-own-close-end
-    is-own-close-requires
-    sub-t16
+    (λ c. (search needs, let a = c .before .args in from-start (a .number) (a .text .now) (a .from)))
+    (λ c. search needs) (λ c κs. search needs) (λ c κs. search needs) (λ c. search needs)
     returns
     returns-2
-    add-at
-    loop-less
+    (λ c κs. search needs) (λ c. omega (arith, ends c)) (λ c. omega (arith, ends c, c .line-end .ensures))
     loop-again
     returns-3)

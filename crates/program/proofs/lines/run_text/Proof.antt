@@ -1,218 +1,130 @@
--- The loop's invariant: the next block is at hand, every stored body lies within the text, and whoever carries out the
--- lines from there on has carried out the text.
-use mathlib.Core.Path.{_≡_, refl, sym, ap, _∙_, subst}
-use Prim.Native.Nat.{ℕ, _<_, _≤_, _+_, _-_}
+-- The invariant: the text is under way. What each turn makes of that goes by what comes next.
+use mathlib.Core.Path.{_≡_, refl, _∙_}
+use Prim.Native.Nat.{ℕ, _+_, _-_}
 use native.Mathlib.Omega.{arith}
 use borrow.Author.Needs.{needs}
-use lib.ListN.{length, take, drop}
-use Rattle.aries.specs.declared.setup.Setup.{Setup}
+use lib.ListN.{length, drop}
+use Rattle.aries.specs.declared.block.Block.the-variants as Block
+use Rattle.aries.specs.declared.block.Outside.the-variants as Outside
+use Rattle.aries.specs.Bodies.{withStored, openBody}
+use Rattle.aries.specs.Judging.{limits}
+use Rattle.aries.specs.Program.{withStore, carryOut, carryOutside}
+use Rattle.aries.specs.Runs.{lent, hitsOfProgram, Ran}
 use Rattle.aries.specs.Text.{lines}
-use Rattle.aries.specs.Judging.{lent}
-use Rattle.aries.specs.Macros.{Within}
-use Rattle.aries.specs.Setup.{freshProgram}
-use Rattle.aries.specs.Program.{runLineOutside, runFrom}
-use Rattle.aries.specs.Runs.{Ran}
-use Rattle.aries.proofs.Runs.{Leads, leads-start, leads-as, leads-end}
-use Rattle.text.specs.Lines.{blanks}
-use Rattle.text.proofs.Lines.{line-goes-on, next-stop}
-use Rattle.bodies.specs.Stretches.{AtBlock}
-use Rattle.bodies.proofs.Stretches.{stretch-passed, stretch-stopped, apart-line}
-use Rattle.bodies.proofs.TextRuns.{hits, text-start, text-end, turn-refused, turn-passed}
-use Rattle.program.specs.Direct.{Reaches}
-use Rattle.program.proofs.StoredBodies.{Stored, none-stored, passed-stored}
+use Rattle.aries.proofs.Runs.{ran-leaving}
+use Rattle.program.specs.declared.turn.Next.{Next}
+use Rattle.program.specs.Turns.{at, carried, blockOf, Comes, Beyond}
+use Rattle.program.proofs.Underway.{Underway, underway-start, underway-end, comes-at, turn-refused, turn-line, block-refused, block-passed}
 use Rattle.program.proofs.lines.run_text.Statement.{statement}
 use Rattle.program.proofs.lines.run_text.Tie as tie
 
 abbrev Inv-loop : tie.InvT-loop
-Inv-loop list₀ text now₀ at₀ line₀ list now at line =
-    (AtBlock text at line)
-    × (line ≤ at + 1)
-    × (length list ≡ length list₀)
-    × (Stored (now .setup .macros) (length text))
-    × Leads hits list (hits now) (runFrom (lent (length list₀)) text at line (lines (drop at text)) now) list₀ 0 (runFrom (lent (length list₀)) text 0 1 (lines text) freshProgram)
+Inv-loop job list₀ text stage₀ setup₀ macros₀ progress₀ at₀ line₀ list stage setup macros progress at line =
+    Underway job list₀ text list stage setup macros progress at line
 
 abbrev μ-loop : tie.MeasureT-loop
-μ-loop list₀ text now₀ at₀ line₀ list now at line = length text - at
+μ-loop job list₀ text stage₀ setup₀ macros₀ progress₀ at₀ line₀ list stage setup macros progress at line =
+    length text + 1 - at
 
-fresh-requires : tie.Need-fresh-requires Inv-loop μ-loop
-fresh-requires c κs = search needs
+-- a turn, from the head of the loop on
+module _ (c : tie.After-run-turn Inv-loop μ-loop) where
+  abbrev head : tie.At-loop Inv-loop μ-loop
+  head = c .before .before .before
 
-next-block-requires : tie.Need-next-block-requires Inv-loop μ-loop
-next-block-requires c κs = search needs
+  abbrev entry : tie.Start Inv-loop μ-loop
+  entry = head .before .before .before .before .before
 
-add-line : tie.Need-add-line Inv-loop μ-loop
-add-line c = search needs
+  -- the list keeps its length
+  same : length (c .run-turn .last .0) ≡ length (entry .args .list .now)
+  same = c .run-turn .kept .0 ∙ head .loop .inv .kept
 
-loop-holds : tie.Need-loop-holds Inv-loop μ-loop
-loop-holds c =
-    let a = c .before .before .before .args in
-    let l = a .list .now in
-    let n = c .next-block .result in
-    let e : n ≡ 0 + blanks (drop 0 (a .text .now)) = c .next-block .ensures .0 in
-    let f : c .before .fresh .result ≡ freshProgram = c .before .fresh .ensures in (
-      record { inside = c .next-block .ensures .1; numbered = search needs; block = next-stop (a .text .now) 0 n e },
-      search needs,
-      refl,
-      rw f (none-stored (length (a .text .now))),
-      rw f (leads-start hits l 0 _ (text-start (lent (length l)) (a .text .now) n freshProgram e)),
-    )
-
-run-direct-requires : tie.Need-run-direct-requires Inv-loop μ-loop
-run-direct-requires c κs = c .before .before .loop .inv .0
-
-enum-known-status : tie.Need-enum-known-status Inv-loop μ-loop
-enum-known-status c = search needs
-
--- the stretch of direct blocks, as the definitions have it
-stretch-made :
-    (c : tie.After-run-direct Inv-loop μ-loop)
-    → Reaches (lent (length (c .before .before .before .before .before .before .before .args .list .now))) (c .before .before .before .before .before .before .before .args .text .now) (c .before .before .before .loop .at) (c .before .before .before .loop .line) (c .before .before .before .loop .now) (c .run-direct .result) (c .before .before .before .loop .list) (c .run-direct .last .0)
-stretch-made c = rw (c .before .before .before .loop .inv .2) at (c .run-direct .ensures)
-
-refused-requires : tie.Need-refused-requires Inv-loop μ-loop
-refused-requires c κs = search needs
-
-same-length : tie.Need-same-length Inv-loop μ-loop
-same-length c = c .before .before .before .before .before .before .run-direct .kept .0 ∙ c .before .before .before .before .before .before .before .before .before .loop .inv .2
+  -- what comes next lies further on
+  beyond : {n : Next} → c .run-turn .result .next ≡ n → Comes (Beyond (entry .args .text .now) (head .loop .at)) n
+  beyond e = comes-at (entry .args .job) (entry .args .list .now) (entry .args .text .now) (head .loop .macros) (head .loop .inv) (c .run-turn .kept .0) (c .run-turn .ensures) e
 
 returns : tie.Need-returns Inv-loop μ-loop
 returns c =
-    let a = c .before .before .before .before .before .before .before .before .before .before .before .before .before .args in
-    let p = c .before .before .before .before .before .before .before .before .before .loop in
-    let r = c .before .before .before .before .before .before .run-direct in
-    let m = stretch-made (c .before .before .before .before .before .before) in
-    let x = c .before .before .status .given in
-    rw (c .refused .ensures) (stretch-stopped hits (m .made) _ _ _ (r .result .status) (r .result .program) (p .list) (r .last .0) (a .list .now) (hits (p .now)) 0 (m .leads) (m .ran) (p .inv .4) (x .0 .0) (x .0 .1 .0) (x .1))
-
-enum-told : tie.Need-enum-told Inv-loop μ-loop
-enum-told c = search needs
-
-passed-requires : tie.Need-passed-requires Inv-loop μ-loop
-passed-requires c κs = search needs
-
-same-length-2 : tie.Need-same-length-2 Inv-loop μ-loop
-same-length-2 c = c .before .before .before .before .before .before .run-direct .kept .0 ∙ c .before .before .before .before .before .before .before .before .before .loop .inv .2
-
-returns-2 : tie.Need-returns-2 Inv-loop μ-loop
-returns-2 c =
-    let a = c .before .before .before .before .before .before .before .before .before .before .before .before .before .args in
-    let p = c .before .before .before .before .before .before .before .before .before .loop in
-    let r = c .before .before .before .before .before .before .run-direct in
-    let m = stretch-made (c .before .before .before .before .before .before) in
-    let n = length (a .list .now) in
-    let d = stretch-passed hits (m .made) _ _ _ (r .result .status) (r .result .program) (p .list) (r .last .0) (a .list .now) (hits (p .now)) 0 (m .leads) (m .ran) (p .inv .4) (c .before .before .enum-told .given .1) in
-    let e : r .result .at ≡ length (a .text .now) = c .before .if1 .taken in
-    let z = text-end (lent n) (a .text .now) (r .result .at) (r .result .line) (r .result .program) (omega (arith, e)) in
-    rw (c .passed .ensures) (leads-end hits (a .list .now) 0 _ (r .result .program) (r .last .0) (leads-as hits (a .list .now) 0 _ (r .last .0) (hits (r .result .program)) z d))
-
-line-end-requires : tie.Need-line-end-requires Inv-loop μ-loop
-line-end-requires c κs = c .before .before .before .before .before .run-direct .ensures .stops .inside
-
-run-line-requires : tie.Need-run-line-requires Inv-loop μ-loop
-run-line-requires c κs =
-    let a = c .before .before .before .before .before .before .before .before .before .before .before .before .before .before in
-    let p = c .before .before .before .before .before .before .before .before .before .before .loop in
-    let r = c .before .before .before .before .before .before .before .run-direct in
-    let e = c .before .line-end in
-    let t = a .args .text .now in
-    let s = r .ensures in
-    let i : r .result .at < length t = omega (arith, s .stops .inside, c .before .before .if1 .left) in
-    let g = line-goes-on t (r .result .at) i (s .stops .block i) in
-    let h : r .result .at < e .result = omega (arith, e .ensures .0, g) in
-    let k : r .result .line < 65535 = omega (arith, a .pre, s .paced, s .stops .inside, p .inv .1) in
-    let w = subst (λ (x : Setup). Within (x .macros) (length t)) (sym (s .kept)) (p .inv .3 .within) in
-    ((w, (a .pre, (k, (h, e .ensures .1)))), (λ q. apart-line t (r .result .at) (e .result) (r .result .line) (r .result .program .progress .blocks) (e .ensures .0) (s .apart (c .before .before .before .enum-told .given .1) i q)))
-
--- what the stretch leaves, and the line behind it
-stretch-left :
-    (c : tie.After-run-line Inv-loop μ-loop)
-    → Leads hits (c .before .before .before .before .before .before .before .before .run-direct .last .0) (hits (c .before .before .before .before .before .before .before .before .run-direct .result .program))
-    (runFrom (lent (length (c .before .before .before .before .before .before .before .before .before .before .before .before .before .before .before .args .list .now))) (c .before .before .before .before .before .before .before .before .before .before .before .before .before .before .before .args .text .now) (c .before .before .before .before .before .before .before .before .run-direct .result .at) (c .before .before .before .before .before .before .before .before .run-direct .result .line) (lines (drop (c .before .before .before .before .before .before .before .before .run-direct .result .at) (c .before .before .before .before .before .before .before .before .before .before .before .before .before .before .before .args .text .now))) (c .before .before .before .before .before .before .before .before .run-direct .result .program))
-    (c .before .before .before .before .before .before .before .before .before .before .before .before .before .before .before .args .list .now) 0 (runFrom (lent (length (c .before .before .before .before .before .before .before .before .before .before .before .before .before .before .before .args .list .now))) (c .before .before .before .before .before .before .before .before .before .before .before .before .before .before .before .args .text .now) 0 1 (lines (c .before .before .before .before .before .before .before .before .before .before .before .before .before .before .before .args .text .now)) freshProgram)
-stretch-left c =
-    let a = c .before .before .before .before .before .before .before .before .before .before .before .before .before .before .before .args in
-    let p = c .before .before .before .before .before .before .before .before .before .before .before .loop in
-    let r = c .before .before .before .before .before .before .before .before .run-direct in
-    let m = stretch-made (c .before .before .before .before .before .before .before .before) in
-    stretch-passed hits (m .made) _ _ _ (r .result .status) (r .result .program) (p .list) (r .last .0) (a .list .now) (hits (p .now)) 0 (m .leads) (m .ran) (p .inv .4) (c .before .before .before .before .enum-told .given .1)
-
-line-made :
-    (c : tie.After-run-line Inv-loop μ-loop)
-    → Ran hits (c .run-line .result .status) (c .run-line .result .program) (c .before .before .before .before .before .before .before .before .run-direct .last .0) (c .run-line .last .0) (hits (c .before .before .before .before .before .before .before .before .run-direct .result .program))
-    (runLineOutside (lent (length (c .before .before .before .before .before .before .before .before .before .before .before .before .before .before .before .args .list .now))) (c .before .before .before .before .before .before .before .before .before .before .before .before .before .before .before .args .text .now) (c .before .before .line-end .result + 1) (c .before .before .before .before .before .before .before .before .run-direct .result .line) (take (c .before .before .line-end .result - c .before .before .before .before .before .before .before .before .run-direct .result .at) (drop (c .before .before .before .before .before .before .before .before .run-direct .result .at) (c .before .before .before .before .before .before .before .before .before .before .before .before .before .before .before .args .text .now))) (lines (drop (c .before .before .line-end .result + 1) (c .before .before .before .before .before .before .before .before .before .before .before .before .before .before .before .args .text .now))) (c .before .before .before .before .before .before .before .before .run-direct .result .program))
-line-made c = rw (c .before .before .before .before .before .before .before .before .run-direct .kept .0 ∙ c .before .before .before .before .before .before .before .before .before .before .before .loop .inv .2) at (c .run-line .ensures)
-
-stop-inside : (c : tie.After-run-line Inv-loop μ-loop) → c .before .before .before .before .before .before .before .before .run-direct .result .at < length (c .before .before .before .before .before .before .before .before .before .before .before .before .before .before .before .args .text .now)
-stop-inside c = omega (arith, c .before .before .before .before .before .before .before .before .run-direct .ensures .stops .inside, c .before .before .before .if1 .left)
-
-enum-told-2 : tie.Need-enum-told-2 Inv-loop μ-loop
-enum-told-2 c = search needs
-
-same-length-3 : tie.Need-same-length-3 Inv-loop μ-loop
-same-length-3 c = c .before .before .before .run-line .kept .0 ∙ c .before .before .before .before .before .before .before .before .before .before .before .run-direct .kept .0 ∙ c .before .before .before .before .before .before .before .before .before .before .before .before .before .before .loop .inv .2
-
-returns-3 : tie.Need-returns-3 Inv-loop μ-loop
-returns-3 c =
-    let a = c .before .before .before .before .before .before .before .before .before .before .before .before .before .before .before .before .before .before .args in
-    let r = c .before .before .before .before .before .before .before .before .before .before .before .run-direct in
-    let e = c .before .before .before .before .before .line-end in
-    let b = c .before .before .before .run-line in
-    turn-refused (lent (length (a .list .now))) (a .text .now) (r .last .0) (a .list .now) (b .last .0) 0 _ (r .result .at) (e .result) (r .result .line) (r .result .program) (b .result .program) (b .result .status) (stop-inside (c .before .before .before)) (e .ensures .0) (line-made (c .before .before .before)) (stretch-left (c .before .before .before)) _ _ (c .enum-told2 .given .1)
-
-enum-told-3 : tie.Need-enum-told-3 Inv-loop μ-loop
-enum-told-3 c = search needs
-
-next-block-requires-2 : tie.Need-next-block-requires-2 Inv-loop μ-loop
-next-block-requires-2 c κs = c .before .before .before .before .before .before .line-end .ensures .1
-
-sub-line : tie.Need-sub-line Inv-loop μ-loop
-sub-line c = search needs
-
-add-line-2 : tie.Need-add-line-2 Inv-loop μ-loop
-add-line-2 c =
-    let r = c .before .before .before .before .before .before .before .before .before .before .before .before .before .run-direct .ensures in
-    let e = c .before .before .before .before .before .before .before .line-end in
-    omega (arith, r .stops .numbered, r .stops .inside, e .ensures .0, e .ensures .1, c .next-block2 .ensures .1, c .before .before .before .before .before .before .before .before .before .before .before .before .before .before .before .before .before .before .before .before .pre)
-
-loop-less : tie.Need-loop-less Inv-loop μ-loop
-loop-less c =
-    let r = c .before .before .before .before .before .before .before .before .before .before .before .before .before .run-direct in
-    let e = c .before .before .before .before .before .before .before .line-end in
-    let t = c .before .before .before .before .before .before .before .before .before .before .before .before .before .before .before .before .before .before .before .before .args .text .now in
-    let i : r .result .at < length t = stop-inside (c .before .before .before .before .before) in
-    omega (arith, r .ensures .advances, e .ensures .0, e .ensures .1, c .next-block2 .ensures .0, c .next-block2 .ensures .1, line-goes-on t (r .result .at) i (r .ensures .stops .block i))
+    let n = c .before .before .before in
+    let t = n .before .before .before .before .before in
+    let e = entry t in
+    rw (c .refused .ensures)
+    (turn-refused (e .args .job) (e .args .list .now) (e .args .text .now) (head t .loop .macros) (head t .loop .inv) (t .run-turn .kept .0) (t .run-turn .ensures) (n .next .given .1) (c .before .fresh3 .result))
 
 loop-again : tie.Need-loop-again Inv-loop μ-loop
 loop-again c =
-    let a = c .before .before .before .before .before .before .before .before .before .before .before .before .before .before .before .before .before .before .before .before .args in
-    let p = c .before .before .before .before .before .before .before .before .before .before .before .before .before .before .before .before .loop in
-    let r = c .before .before .before .before .before .before .before .before .before .before .before .before .before .run-direct in
-    let e = c .before .before .before .before .before .before .before .line-end in
-    let b = c .before .before .before .before .before .run-line in
-    let n = length (a .list .now) in
-    let x = c .next-block2 in
-    let s = c .before .before .enum-told3 .given .1 in (
-      record { inside = x .ensures .1; numbered = omega (arith, r .ensures .stops .numbered, e .ensures .0, x .ensures .0); block = next-stop (a .text .now) (e .result) (x .result) (x .ensures .0) },
-      omega (arith, r .ensures .paced, p .inv .1, e .ensures .0, x .ensures .0),
-      b .kept .0 ∙ r .kept .0 ∙ p .inv .2,
-      passed-stored (lent n) (a .text .now) (e .result + 1) (r .result .line) _ (r .result .program) (b .result .program) (b .result .status) (r .last .0) (b .last .0)
-          (subst (λ (q : Setup). Stored (q .macros) (length (a .text .now))) (sym (r .ensures .kept)) (p .inv .3)) (line-made (c .before .before .before .before .before)) s,
-      turn-passed (lent n) (a .text .now) (r .last .0) (a .list .now) (b .last .0) 0 _ (r .result .at) (e .result) (r .result .line) (r .result .program) (b .result .program) (b .result .status) (stop-inside (c .before .before .before .before .before)) (e .ensures .0) (line-made (c .before .before .before .before .before)) (stretch-left (c .before .before .before .before .before)) (x .result) s (x .ensures .0),
-    )
+    let n = c .before in
+    let t = n .before .before .before .before .before in
+    let e = entry t in
+    turn-line (e .args .job) (e .args .list .now) (e .args .text .now) (head t .loop .macros) (head t .loop .inv) (t .run-turn .kept .0) (t .run-turn .ensures) (n .next2 .given .1)
 
-passed-requires-2 : tie.Need-passed-requires-2 Inv-loop μ-loop
-passed-requires-2 c κs = search needs
+-- ---- A block that runs stored bodies
 
-same-length-4 : tie.Need-same-length-4 Inv-loop μ-loop
-same-length-4 c = search needs
+returns-2 : tie.Need-returns-2 Inv-loop μ-loop
+returns-2 c =
+    let s = c .before .before .before in
+    let r = s .before .before .before in
+    let f = r .before .before .before in
+    let n = f .next3 .given in
+    let t = f .before .before .before .before .before in
+    let e = entry t in
+    rw (c .refused2 .ensures)
+    (block-refused (e .args .job) (e .args .list .now) (e .args .text .now) (head t .loop .macros) (head t .loop .inv) (t .run-turn .kept .0) (t .run-turn .ensures)
+    (blockOf (n .0 .0)) (n .0 .1 .0) (n .0 .1 .1 .0) (n .1) (beyond t (n .1)) refl (r .run-called .ensures (t .run-turn .result .stage) (n .0 .1 .0)) (s .status .given .1) (c .before .fresh4 .result))
+
+loop-again-2 : tie.Need-loop-again-2 Inv-loop μ-loop
+loop-again-2 c =
+    let r = c .before .before .before .before in
+    let f = r .before .before .before in
+    let n = f .next3 .given in
+    let t = f .before .before .before .before .before in
+    let e = entry t in
+    block-passed (e .args .job) (e .args .list .now) (e .args .text .now) (head t .loop .macros) (head t .loop .inv) (t .run-turn .kept .0) (t .run-turn .ensures)
+    (blockOf (n .0 .0)) (n .0 .1 .0) (n .0 .1 .1 .0) (n .1) (beyond t (n .1)) refl (r .run-called .ensures (t .run-turn .result .stage) (n .0 .1 .0)) (c .before .enum-told .given .1) (r .run-called .kept .0) refl
+
+-- ---- A U line
+
+-- what it leaves
+opened : (c : tie.After-open-body Inv-loop μ-loop) → let f = c .before .before .before in let n = f .next4 .given in let r = f .before .before .before .before .before .run-turn in
+    Ran hitsOfProgram (r .result .setup .job) (c .open-body .result .status) (withStore (at (r .result) (head (f .before .before .before .before .before) .loop .macros)) (withStored (c .open-body .result .macros) (c .open-body .result .progress)))
+    (lent (r .last .0)) (lent (c .open-body .last .0)) (r .result .progress .hits)
+    (carried (limits (r .result .setup .job)) (entry (f .before .before .before .before .before) .args .text .now) (n .0 .1 .0) (n .0 .1 .1 .0) (Block.Outside (Outside.Open (n .0 .0))) (at (r .result) (head (f .before .before .before .before .before) .loop .macros)))
+unfolding carryOut carryOutside
+opened c =
+    let f = c .before .before .before in
+    let n = f .next4 .given in
+    let t = f .before .before .before .before .before in
+    let r = t .run-turn .result in
+    let text = entry t .args .text .now in
+    let m = head t .loop .macros in
+    ran-leaving (withStore (at r m)) (λ x. refl) (openBody (limits (r .setup .job)) text (n .0 .0) (n .0 .1 .0 + 1) (n .0 .1 .1 .0) (lines (drop (n .0 .1 .0 + 1) text)) (r .setup) (withStored m (r .progress))) (c .open-body .ensures)
+
+returns-3 : tie.Need-returns-3 Inv-loop μ-loop
+returns-3 c =
+    let s = c .before .before .before in
+    let r = s .before .before .before in
+    let f = r .before .before .before in
+    let n = f .next4 .given in
+    let t = f .before .before .before .before .before in
+    let e = entry t in
+    rw (c .refused3 .ensures)
+    (block-refused (e .args .job) (e .args .list .now) (e .args .text .now) (head t .loop .macros) (head t .loop .inv) (t .run-turn .kept .0) (t .run-turn .ensures)
+    (Block.Outside (Outside.Open (n .0 .0))) (n .0 .1 .0) (n .0 .1 .1 .0) (n .1) (beyond t (n .1)) refl (opened r) (s .status2 .given .1) (c .before .fresh5 .result))
+
+loop-again-3 : tie.Need-loop-again-3 Inv-loop μ-loop
+loop-again-3 c =
+    let r = c .before .before .before .before .before in
+    let f = r .before .before .before in
+    let n = f .next4 .given in
+    let t = f .before .before .before .before .before in
+    let e = entry t in
+    block-passed (e .args .job) (e .args .list .now) (e .args .text .now) (head t .loop .macros) (head t .loop .inv) (t .run-turn .kept .0) (t .run-turn .ensures)
+    (Block.Outside (Outside.Open (n .0 .0))) (n .0 .1 .0) (n .0 .1 .1 .0) (n .1) (beyond t (n .1)) refl (opened r) (c .before .before .enum-told2 .given .1) (r .open-body .kept .0) refl
 
 returns-4 : tie.Need-returns-4 Inv-loop μ-loop
 returns-4 c =
-    let a = c .before .before .before .before .before .before .args in
-    let p = c .before .before .loop in
-    let n = length (a .list .now) in
-    let z = text-end (lent n) (a .text .now) (p .at) (p .line) (p .now) (c .before .loop-test .left) in
-    rw (c .passed2 .ensures) (leads-end hits (a .list .now) 0 _ (p .now) (p .list) (leads-as hits (a .list .now) 0 _ (p .list) (hits (p .now)) z (p .inv .4)))
+    let l = c .before in
+    let e = l .before .before .before .before .before .before in
+    rw (c .passed .ensures) (underway-end (e .args .job) (e .args .list .now) (e .args .text .now) (l .before .loop .inv) (l .loop-test .left))
 
 pub run-text-spec : {M : Type 1} → statement M
 run-text-spec =
@@ -220,30 +132,30 @@ run-text-spec =
     (tie.spec
     Inv-loop
     μ-loop
-    fresh-requires
-    next-block-requires
-    add-line
-    loop-holds
-    run-direct-requires
-    enum-known-status
-    refused-requires
-    same-length
+    (λ c κs. search needs) (λ c κs. search needs) (λ c κs. search needs)
+    (λ c. let e = c .before .before .before .before in rw (c .before .before .fresh .ensures, c .before .none .ensures, c .fresh2 .ensures) (underway-start (e .args .job) (e .args .list .now) (e .args .text .now)))
+    (λ c κs. let p = c .before .before in record { short = p .before .before .before .before .before .pre; inside = c .before .loop-test .taken; numbered = p .loop .inv .numbered })
+    (λ c. search needs) (λ c κs. search needs) (λ c κs. search needs)
+    (λ c. same (c .before .before .before .before .before .before .before .before))
     returns
-    enum-told
-    passed-requires
-    same-length-2
-    returns-2
-    line-end-requires
-    run-line-requires
-    enum-told-2
-    same-length-3
-    returns-3
-    enum-told-3
-    next-block-requires-2
-    sub-line
-    add-line-2
-    loop-less
+    (λ c. search needs)
+    (λ c. let n = c .before in let b = beyond (n .before .before .before .before .before) (n .next2 .given .1) in omega arith)
     loop-again
-    passed-requires-2
-    same-length-4
+    (λ c. search needs) (λ c κs. search needs) (λ c. search needs) (λ c κs. search needs) (λ c κs. search needs)
+    (λ c. let r = c .before .before .before .before .before .before in r .run-called .kept .0 ∙ same (r .before .before .before .before .before .before .before .before))
+    returns-2
+    (λ c. search needs)
+    (λ c. let f = c .before .before .before .before .before .before .before in let b = beyond (f .before .before .before .before .before) (f .next3 .given .1) in omega arith)
+    loop-again-2
+    (λ c. search needs)
+    (λ c. let f = c .before .before in let b = beyond (f .before .before .before .before .before) (f .next4 .given .1) in omega (arith, entry (f .before .before .before .before .before) .pre))
+    (λ c κs. let f = c .before .before in let b = beyond (f .before .before .before .before .before) (f .next4 .given .1) in omega (arith, entry (f .before .before .before .before .before) .pre))
+    (λ c. search needs) (λ c κs. search needs) (λ c κs. search needs)
+    (λ c. let r = c .before .before .before .before .before .before in r .open-body .kept .0 ∙ same (r .before .before .before .before .before .before .before .before))
+    returns-3
+    (λ c. search needs)
+    (λ c. let f = c .before .before .before .before .before .before .before .before in let b = beyond (f .before .before .before .before .before) (f .next4 .given .1) in omega arith)
+    loop-again-3
+    (λ c κs. search needs)
+    (λ c. c .before .before .loop .inv .kept)
     returns-4)

@@ -1,0 +1,103 @@
+-- A text under way: whoever carries out what is left of it has carried out the whole. What each kind of turn makes of that.
+use mathlib.Core.Path.{_≡_, refl, sym, ap, subst, _∙_}
+use mathlib.Core.List.{List}
+use Prim.Native.Nat.{ℕ, _+_, _<_, _≤_}
+use native.Mathlib.Omega.{arith}
+use lib.IntN.{ℤ}
+use lib.ListN.{length, drop}
+use Rattle.aries.specs.declared.block.Block.{Block}
+use Rattle.aries.specs.declared.job.Job.{Job}
+use Rattle.aries.specs.declared.macros.Macros.{Macros}
+use Rattle.aries.specs.declared.setup.Program.{Program}
+use Rattle.aries.specs.declared.setup.Setup.{Setup}
+use Rattle.aries.specs.declared.setup.Stage.{Stage}
+use Rattle.aries.specs.declared.setup.Stage.the-variants.{Fresh}
+use Rattle.aries.specs.declared.state.Progress.{Progress}
+use Rattle.aries.specs.declared.state.Status.{Status}
+use Rattle.aries.specs.declared.state.Status.the-variants.{Passed, Refused}
+use Rattle.aries.specs.Outcome.{Out}
+use Rattle.aries.specs.Hits.{Made, andThen}
+use Rattle.aries.specs.Judging.{limits}
+use Rattle.aries.specs.Macros.{noMacros}
+use Rattle.aries.specs.Moves.{freshProgress}
+use Rattle.aries.specs.Program.{freshProgram, runFrom}
+use Rattle.aries.specs.Runs.{Lent, lent, hitsOfProgram, Ran}
+use Rattle.aries.specs.Setup.{freshSetup}
+use Rattle.aries.specs.Text.{lines}
+use Rattle.aries.proofs.Runs.{ran-refused, ran-stop, Leads, leads-start, leads-as, leads-on, leads-end}
+use Rattle.program.specs.declared.turn.Next.{Next}
+use Rattle.program.specs.declared.turn.Next.the-variants as Next
+use Rattle.program.specs.declared.turn.Turn.{Turn}
+use Rattle.program.specs.Turns.{program, at, carried, linesFrom, leftOf, Comes, Beyond, Turns}
+use Rattle.program.proofs.RunFrom.{text-end}
+
+module _ (job : Job) (l₀ : List ℤ) (t : List ℕ) where
+  abbrev pub whole : Out (Made Program)
+  whole = runFrom (limits job) t 0 1 (lines t) (freshProgram job)
+
+  -- what is left, from a list and a count of hits on
+  abbrev Left : Lent → ℕ → Out (Made Program) → Type 0
+  Left l k rest = Leads hitsOfProgram job l k rest (lent l₀) 0 whole
+
+  pub record Underway (l : List ℤ) (stage : Stage) (s : Setup) (m : Macros) (g : Progress) (at line : ℕ) : Type 0 where
+    pub kept : length l ≡ length l₀
+    pub same-job : s .job ≡ job
+    pub inside : at ≤ length t + 1
+    pub numbered : line ≤ at + 1
+    pub leads : Left (lent l) (g .hits) (linesFrom (limits job) t at line (program stage s m g))
+
+  pub underway-start : Underway l₀ Fresh (freshSetup job) noMacros freshProgress 0 1
+  underway-start = record { kept = refl; same-job = refl; inside = omega arith; numbered = omega arith; leads = leads-start refl }
+
+  -- the end of the text
+  pub underway-end :
+      {l : List ℤ} {stage : Stage} {s : Setup} {m : Macros} {g : Progress} {at line : ℕ} → Underway l stage s m g at line → length t ≤ at
+      → Ran hitsOfProgram job Passed (program stage s m g) (lent l₀) (lent l) 0 whole
+  underway-end {stage = stage} {s} {m} {g} {at} {line} u h = leads-end (leads-as (text-end (limits job) t at line (program stage s m g) h) (u .leads))
+
+  -- a turn
+  module _
+      {l l' : List ℤ} {stage : Stage} {s : Setup} {g : Progress} {from line : ℕ} {r : Turn} (m : Macros) (u : Underway l stage s m g from line)
+      (same : length l' ≡ length l) (turn : Turns r t from line stage s g (lent l) (lent l')) where
+    left : {n : Next} → r .next ≡ n → Left (lent l') (r .progress .hits) (leftOf (limits job) t n (at r m))
+    left e status end last h =
+        u .leads status end last
+        (subst (λ (k : Job). Ran hitsOfProgram k status end (lent l') last (r .progress .hits) (leftOf (limits k) t (r .next) (at r m)) → Ran hitsOfProgram k status end (lent l) last (g .hits) (linesFrom (limits k) t from line (program stage s m g)))
+        (u .same-job) (turn .leads m status end last)
+        (subst (λ (n : Next). Ran hitsOfProgram job status end (lent l') last (r .progress .hits) (leftOf (limits job) t n (at r m))) (sym e) h))
+
+    pub comes-at : {n : Next} → r .next ≡ n → Comes (Beyond t from) n
+    comes-at e = subst (Comes (Beyond t from)) e (turn .comes)
+
+    -- it was refused
+    pub turn-refused : {number place : ℕ} → r .next ≡ Next.Refused number place → (end : Program) → Ran hitsOfProgram job (Refused number place) end (lent l₀) (lent l') 0 whole
+    turn-refused {number} {place} e end = left e (Refused number place) end (lent l') ran-refused
+
+    -- lines are left
+    pub turn-line : {e k : ℕ} → r .next ≡ Next.Line e k → Underway l' (r .stage) (r .setup) m (r .progress) e k
+    turn-line e =
+        let b = comes-at e in
+        record { kept = same ∙ u .kept; same-job = turn .job ∙ u .same-job; inside = b .inside; numbered = b .numbered; leads = left e }
+
+    -- a block that needs the stored bodies
+    module _
+        (b : Block) (end place : ℕ) {n : Next} {status : Status} {p : Program} {l'' : List ℤ} (next : r .next ≡ n) (far : Beyond t from end place)
+        (is : leftOf (limits job) t n (at r m) ≡ andThen (carried (limits job) t end place b (at r m)) (linesFrom (limits job) t end place))
+        (ran : Ran hitsOfProgram (r .setup .job) status p (lent l') (lent l'') (r .progress .hits) (carried (limits (r .setup .job)) t end place b (at r m))) where
+      ran-here : {x : Status} → status ≡ x → Ran hitsOfProgram job x p (lent l') (lent l'') (r .progress .hits) (carried (limits job) t end place b (at r m))
+      ran-here {x} e =
+          subst (λ (y : Status). Ran hitsOfProgram job y p (lent l') (lent l'') (r .progress .hits) (carried (limits job) t end place b (at r m))) e
+          (subst (λ (k : Job). Ran hitsOfProgram k status p (lent l') (lent l'') (r .progress .hits) (carried (limits k) t end place b (at r m))) (turn .job ∙ u .same-job) ran)
+
+      pub block-refused : {number line : ℕ} → status ≡ Refused number line → (last : Program) → Ran hitsOfProgram job (Refused number line) last (lent l₀) (lent l'') 0 whole
+      block-refused {number} {line} e last = leads-as is (left next) (Refused number line) last (lent l'') (ran-stop (linesFrom (limits job) t end place) (ran-here e))
+
+      pub block-passed : status ≡ Passed → length l'' ≡ length l' → p .setup ≡ r .setup → Underway l'' (p .stage) (p .setup) (p .macros) (p .progress) end place
+      block-passed e k same-setup =
+          record {
+            kept = k ∙ same ∙ u .kept;
+            same-job = ap (λ (x : Setup). x .job) same-setup ∙ turn .job ∙ u .same-job;
+            inside = far .inside;
+            numbered = far .numbered;
+            leads = leads-on (carried (limits job) t end place b (at r m)) (linesFrom (limits job) t end place) (ran-here e) (leads-as is (left next));
+          }

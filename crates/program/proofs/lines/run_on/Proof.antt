@@ -1,0 +1,106 @@
+-- What the stretch made, and then by where it stopped.
+use mathlib.Core.Path.{_≡_, refl, sym, subst, _∙_}
+use Prim.Native.Nat.{_≤_}
+use native.Mathlib.Omega.{arith}
+use borrow.Author.Needs.{needs}
+use lib.ListN.{length, drop}
+use Rattle.aries.specs.declared.block.Block.the-variants as Block
+use Rattle.aries.specs.declared.setup.Stage.the-variants.{Running}
+use Rattle.aries.specs.declared.state.Status.the-variants.{Passed}
+use Rattle.aries.specs.Judging.{limits}
+use Rattle.aries.specs.Runs.{lent, hitsMade, Ran}
+use Rattle.aries.specs.Setup.{ordinaryFrame}
+use Rattle.stretches.specs.declared.Stop.{Stop}
+use Rattle.stretches.specs.declared.Stop.the-variants as Stop
+use Rattle.stretches.proofs.Stops.{Stops, stretch-stops}
+use Rattle.program.specs.Turns.{program, placed}
+use Rattle.program.proofs.RunFrom.{text-end}
+use Rattle.program.proofs.Turns.{comes-beyond}
+use Rattle.program.proofs.Stretches.{here, stretch-refused, stretch-passed, stop-beyond}
+use Rattle.program.proofs.lines.run_on.Statement.{statement}
+use Rattle.program.proofs.lines.run_on.Tie as tie
+
+-- the stretch
+module _ (c : tie.After-run-stretch) where
+  abbrev entry : tie.Start
+  entry = c .before .before .before .before
+
+  ran :
+      let a = entry .args in
+      Ran hitsMade (a .setup .job) (c .run-stretch .result .status) (c .run-stretch .result .progress) (lent (a .list .now)) (lent (c .run-stretch .last .0)) (a .progress .hits)
+      (here (a .text .now) (a .at) (a .line) (a .setup) (a .progress) .made)
+  ran = rw (c .before .frame .ensures) at (c .run-stretch .ensures .ran)
+
+  module _ {x : Stop} (e : c .run-stretch .result .stop ≡ x) where
+    stopped : let a = entry .args in x ≡ here (a .text .now) (a .at) (a .line) (a .setup) (a .progress) .stop
+    stopped = sym e ∙ (rw (c .before .frame .ensures) at (c .run-stretch .ensures .stopped))
+
+    behind : let a = entry .args in Stops (a .text .now) (a .at) (a .line) x
+    behind =
+        let a = entry .args in
+        subst (λ (x : Stop). Stops (a .text .now) (a .at) (a .line) x) (sym stopped) (stretch-stops (a .text .now) (limits (a .setup .job)) (ordinaryFrame (a .setup)) (a .at) (a .line) (a .progress))
+
+-- it passed
+module _ (c : tie.After-enum-told) where
+  abbrev stretch : tie.After-run-stretch
+  stretch = c .before .before .before .before
+
+  passed : stretch .run-stretch .result .status ≡ Passed
+  passed = c .enum-told .given .1
+
+returns : tie.Need-returns
+returns c =
+    let r = c .before .before .before .before .before .before in
+    let a = entry r .args in
+    stretch-refused (a .text .now) (a .at) (a .line) (a .setup) (a .progress) (ran r) (c .before .before .status .given .1) (c .running .ensures)
+
+returns-2 : tie.Need-returns-2
+returns-2 c =
+    let p = c .before .before .before in
+    let r = stretch p in
+    let a = entry r .args in
+    let n = entry r .pre in
+    let left = r .run-stretch .result .progress in
+    rw (c .running2 .ensures)
+    (stretch-passed (a .text .now) (a .at) (a .line) (a .setup) (a .progress) (ran r) (passed p) (stopped r (c .before .enum-told2 .given .1))
+    (λ m. text-end (limits (a .setup .job)) (a .text .now) (length (a .text .now)) (a .line) (program Running (a .setup) m left) (omega arith)) refl refl
+    (record { further = omega arith; inside = omega arith; numbered = omega arith }))
+
+returns-3 : tie.Need-returns-3
+unfolding placed
+returns-3 c =
+    let x = c .before .before .stop .given in
+    let p = c .before .before .before .before in
+    let r = stretch p in
+    let a = entry r .args in
+    rw (c .running3 .ensures)
+    (stretch-passed (a .text .now) (a .at) (a .line) (a .setup) (a .progress) (ran r) (passed p) (stopped r (x .1)) (λ m. refl) refl refl
+    (stop-beyond (a .text .now) (a .at) (a .line) (a .setup) (a .progress) (x .0 .1 .0) (x .0 .1 .1 .0) (entry r .pre .numbered) (behind r (x .1))))
+
+returns-4 : tie.Need-returns-4
+returns-4 c =
+    let x = c .before .before .stop2 .given in
+    let p = c .before .before .before .before in
+    let r = stretch p in
+    let a = entry r .args in
+    let s = c .settle .ensures in
+    stretch-passed (a .text .now) (a .at) (a .line) (a .setup) (a .progress) (ran r) (passed p) (stopped r (x .1)) (λ m. s .same (a .text .now) m) (s .hits) (s .job)
+    (comes-beyond (a .text .now) (a .at) (x .0 .1 .0) (x .0 .1 .1 .0) (c .settle .result .next)
+    (stop-beyond (a .text .now) (a .at) (a .line) (a .setup) (a .progress) (x .0 .1 .0) (x .0 .1 .1 .0) (entry r .pre .numbered) (behind r (x .1)))
+    (s .comes))
+
+pub run-on-spec : {M : Type 1} → statement M
+run-on-spec =
+    tie.close
+    (tie.spec
+    (λ c κs. search needs)
+    (λ c κs. let p = c .before .before .before .pre in omega arith)
+    (λ c. search needs) (λ c κs. search needs) (λ c. search needs)
+    returns
+    (λ c. search needs) (λ c. search needs) (λ c κs. search needs) (λ c. search needs) (λ c κs. search needs) (λ c. search needs) (λ c κs. search needs)
+    (λ c. search needs)
+    returns-2
+    (λ c. search needs)
+    returns-3
+    (λ c. search needs)
+    returns-4)
