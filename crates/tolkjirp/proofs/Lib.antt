@@ -1,3 +1,3 @@
-pub mod Counts
-pub mod Endings
 pub mod Lists
+pub mod Endings
+pub mod Counts

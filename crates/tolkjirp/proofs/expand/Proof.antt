@@ -1,103 +1,45 @@
--- The length of the text decides first, and then which buffer is large enough.
-use mathlib.Core.Path.{sym}
-use Prim.Native.Nat.{_≤_}
+-- The length of the text decides first.
+use mathlib.Core.Path.{_≡_, sym}
 use native.Mathlib.Omega.{arith}
 use borrow.Author.Needs.{needs}
 use lib.ListN.{length}
+use Rattle.aries.specs.Program.{expand}
+use Rattle.tolkjirp.specs.Cleaned.{afterCleaning}
 use Rattle.tolkjirp.proofs.Endings.{answers-refused, answers-as, expand-empty, expand-long, expand-through}
 use Rattle.tolkjirp.proofs.expand.Statement.{statement}
 use Rattle.tolkjirp.proofs.expand.Tie as tie
 
-refuse-requires : tie.Need-refuse-requires
-refuse-requires c κs = search needs
-
-same-length : tie.Need-same-length
-same-length c = search needs
-
 returns : tie.Need-returns
 returns c =
-    let a = c .before .before .before .before .before .args in
     let f = c .before .refuse in
-    answers-refused (f .result) (f .last .0) (length (a .list .now)) 1 0 _ (f .ensures .0) (f .ensures .1) (expand-empty (a .text .now) (length (a .list .now)) (c .before .before .before .if1 .taken))
-
-refuse-requires-2 : tie.Need-refuse-requires-2
-refuse-requires-2 c κs = search needs
-
-same-length-2 : tie.Need-same-length-2
-same-length-2 c = search needs
+    let t = c .before .before .before in
+    let a = t .before .before .args in
+    answers-refused (length (a .list .now)) (f .ensures .0) (f .ensures .1) (expand-empty (a .text .now) (length (a .list .now)) (t .if1 .taken))
 
 returns-2 : tie.Need-returns-2
 returns-2 c =
-    let a = c .before .before .before .before .before .before .args in
     let f = c .before .refuse2 in
-    answers-refused (f .result) (f .last .0) (length (a .list .now)) 1 0 _ (f .ensures .0) (f .ensures .1) (expand-long (a .text .now) (length (a .list .now)) (c .before .before .before .if2 .taken))
+    let t = c .before .before .before in
+    let a = t .before .before .before .args in
+    answers-refused (length (a .list .now)) (f .ensures .0) (f .ensures .1) (expand-long (a .text .now) (length (a .list .now)) (t .if2 .taken))
 
 -- a length that is allowed
-module _ (c : tie.Else2) where
-  abbrev entry : tie.Start
-  entry = c .before .before .before
-
-  some : 1 ≤ length (entry .args .text .now)
-  some = omega (arith, c .before .if1 .left)
-
-  most : length (entry .args .text .now) ≤ 60000
-  most = omega (arith, c .if2 .left)
-
-expand-tiny-requires : tie.Need-expand-tiny-requires
-expand-tiny-requires c κs = search needs
-
-same-length-3 : tie.Need-same-length-3
-same-length-3 c = search needs
-
-returns-3 : tie.Need-returns-3
-returns-3 c =
-    let e = c .before .before .before .before in
-    let a = entry e .args in
-    let f = c .before .expand-tiny in
-    answers-as (f .result) (f .last .1 .0) (length (a .list .now)) _ _ (sym (expand-through (a .text .now) (length (a .list .now)) (some e) (most e))) (f .ensures)
-
-expand-short-requires : tie.Need-expand-short-requires
-expand-short-requires c κs = search needs
-
-same-length-4 : tie.Need-same-length-4
-same-length-4 c = search needs
-
-returns-4 : tie.Need-returns-4
-returns-4 c =
-    let e = c .before .before .before .before .before in
-    let a = entry e .args in
-    let f = c .before .expand-short in
-    answers-as (f .result) (f .last .1 .0) (length (a .list .now)) _ _ (sym (expand-through (a .text .now) (length (a .list .now)) (some e) (most e))) (f .ensures)
-
-expand-long-requires : tie.Need-expand-long-requires
-expand-long-requires c κs = search needs
-
-same-length-5 : tie.Need-same-length-5
-same-length-5 c = search needs
-
-returns-5 : tie.Need-returns-5
-returns-5 c =
-    let e = c .before .before .before .before .before in
-    let a = entry e .args in
-    let f = c .before .expand-long in
-    answers-as (f .result) (f .last .1 .0) (length (a .list .now)) _ _ (sym (expand-through (a .text .now) (length (a .list .now)) (some e) (most e))) (f .ensures)
+allowed : (c : tie.Else2) → let a = c .before .before .before .args in afterCleaning (a .text .now) (length (a .list .now)) ≡ expand (a .text .now) (length (a .list .now))
+allowed c =
+    let a = c .before .before .before .args in
+    sym (expand-through (a .text .now) (length (a .list .now)) (omega (arith, c .before .if1 .left)) (omega (arith, c .if2 .left)))
 
 pub expand-spec : {M : Type 1} → statement M
 expand-spec =
     tie.close
     (tie.spec
-    refuse-requires
-    same-length
+    (λ c κs. search needs) (λ c. search needs)
     returns
-    refuse-requires-2
-    same-length-2
+    (λ c κs. search needs) (λ c. search needs)
     returns-2
-    expand-tiny-requires
-    same-length-3
-    returns-3
-    expand-short-requires
-    same-length-4
-    returns-4
-    expand-long-requires
-    same-length-5
-    returns-5)
+    (λ c κs. search needs) (λ c. search needs)
+    (λ c. answers-as (allowed (c .before .before .before .before)) (c .before .expand-tiny .ensures))
+    (λ c κs. search needs) (λ c. search needs)
+    (λ c. answers-as (allowed (c .before .before .before .before .before)) (c .before .expand-short .ensures))
+    (λ c κs. search needs) (λ c. search needs)
+    (λ c. answers-as (allowed (c .before .before .before .before .before)) (c .before .expand-long .ensures)))

@@ -15,94 +15,64 @@ use Rattle.tolkjirp.proofs.Endings.{answers-refused, answers-as, stray-
 use Rattle.tolkjirp.proofs.expand_through.Statement.{statement}
 use Rattle.tolkjirp.proofs.expand_through.Tie as tie
 
-clean-requires : tie.Need-clean-requires
-clean-requires c κs = search needs
-
-enum-known-cleaned : tie.Need-enum-known-cleaned
-enum-known-cleaned c = search needs
-
-refuse-requires : tie.Need-refuse-requires
-refuse-requires c κs = search needs
-
-enum-known-cleaned-2 : tie.Need-enum-known-cleaned-2
-enum-known-cleaned-2 c = search needs
+abbrev entry : tie.After-clean → tie.Start
+entry c = c .before .before .before .before
 
 -- what is known once the text is cleaned
 module _ (c : tie.After-known-told2) where
+  abbrev cleans : tie.After-clean
+  cleans = c .before .before .before .before .before
+
   abbrev size : ℕ
   size = c .before .cleaned2 .given .0 .0
 
   abbrev text : List ℕ
-  text = c .before .before .before .before .before .before .before .before .before .args .text .now
+  text = entry cleans .args .text .now
 
   abbrev buffer : List ℕ
-  buffer = c .before .before .before .before .before .clean .last .1 .0
+  buffer = cleans .clean .last .1 .0
 
   told : (strayLine 1 text ≡ none) × (size ≡ length (withoutSpaces text))
-  told = dense-found (strayLine 1 text) (withoutSpaces text) size (sym (c .before .cleaned2 .given .1) ∙ c .before .before .before .before .before .clean .ensures .answered)
+  told = dense-found (strayLine 1 text) (withoutSpaces text) size (sym (c .before .cleaned2 .given .1) ∙ cleans .clean .ensures .answered)
 
   held : take size buffer ≡ withoutSpaces text
-  held = ap (λ (n : ℕ). take n buffer) (told .1) ∙ c .before .before .before .before .before .clean .ensures .copied (told .0)
+  held = ap (λ (n : ℕ). take n buffer) (told .1) ∙ cleans .clean .ensures .copied (told .0)
 
   short : size ≤ length text
   short = let d = dense-short text in omega (arith, told .1)
 
   within : size ≤ length buffer
-  within = omega (arith, short, c .before .before .before .before .before .before .before .before .before .pre .1, c .before .before .before .before .before .clean .kept .1 .0)
+  within = omega (arith, short, entry cleans .pre .1, cleans .clean .kept .1 .0)
 
-slice-reshare-prefix-perform : tie.Need-slice-reshare-prefix-perform
-slice-reshare-prefix-perform c = within (c .before)
-
-slice-aggregate-perform : tie.Need-slice-aggregate-perform
-slice-aggregate-perform c = sym (length-take-le (size (c .before .before)) (buffer (c .before .before)) (within (c .before .before)))
-
-perform-requires : tie.Need-perform-requires
-perform-requires c κs =
-    let e = length-take-le (size (c .before .before)) (buffer (c .before .before)) (within (c .before .before)) in
-    omega (arith, short (c .before .before), c .before .before .before .before .before .before .before .before .before .before .before .pre .0)
-
-same-length : tie.Need-same-length
-same-length c = search needs
-
-same-length-2 : tie.Need-same-length-2
-same-length-2 c = search needs
+  part : length (take size buffer) ≡ size
+  part = length-take-le size buffer within
 
 returns : tie.Need-returns
 returns c =
-    let a = c .before .before .before .before .before .before .before .before .before .before .before .before .args in
     let f = c .before .refuse in
-    let k = c .before .before .before .before .before .before .before .before .clean in
-    answers-refused (f .result) (f .last .0) (length (a .list .now)) 2 _ _ (f .ensures .0) (f .ensures .1)
-    (after-stray (a .text .now) (length (a .list .now)) _ (stray-found (strayLine 1 (a .text .now)) (withoutSpaces (a .text .now)) _ (sym (c .before .before .before .before .cleaned .given .1) ∙ k .ensures .answered)))
-
-same-length-3 : tie.Need-same-length-3
-same-length-3 c = search needs
-
-same-length-4 : tie.Need-same-length-4
-same-length-4 c = search needs
+    let s = c .before .before .before .before in
+    let k = s .before .before .before .before in
+    let a = entry k .args in
+    answers-refused (length (a .list .now)) (f .ensures .0) (f .ensures .1)
+    (after-stray (a .text .now) (length (a .list .now)) (stray-found (strayLine 1 (a .text .now)) (withoutSpaces (a .text .now)) _ (sym (s .cleaned .given .1) ∙ k .clean .ensures .answered)))
 
 returns-2 : tie.Need-returns-2
 returns-2 c =
-    let a = c .before .before .before .before .before .before .before .before .before .before .before .before .before .args in
-    let p = c .before .perform in
+    let k = c .before .before .before .before in
+    let a = entry (cleans k) .args in
     let n = length (a .list .now) in
-    answers-as (p .result) (p .last .0) n _ _
-    (ap (λ (t : List ℕ). perform (lending n) t (length (lines (a .text .now)))) (held (c .before .before .before .before)) ∙ sym (after-dense (a .text .now) n (told (c .before .before .before .before) .0))) (p .ensures)
+    answers-as
+    (ap (λ (t : List ℕ). perform (lending n) t (length (lines (a .text .now)))) (held k) ∙ sym (after-dense (a .text .now) n (told k .0))) (c .before .perform .ensures)
 
 pub expand-through-spec : {M : Type 1} → statement M
 expand-through-spec =
     tie.close
     (tie.spec
-    clean-requires
-    enum-known-cleaned
-    refuse-requires
-    enum-known-cleaned-2
-    slice-reshare-prefix-perform
-    slice-aggregate-perform
-    perform-requires
-    same-length
-    same-length-2
+    (λ c κs. search needs) (λ c. search needs) (λ c κs. search needs) (λ c. search needs)
+    (λ c. within (c .before))
+    (λ c. sym (part (c .before .before)))
+    (λ c κs. let k = c .before .before in omega (arith, part k, short k, entry (cleans k) .pre .0))
+    (λ c. search needs) (λ c. search needs)
     returns
-    same-length-3
-    same-length-4
+    (λ c. search needs) (λ c. search needs)
     returns-2)

@@ -1,16 +1,14 @@
 -- The three ways out: a refusal on the way, a text without its G50, and the hits.
 use mathlib.Core.Path.{_≡_, refl, sym, ap, _∙_}
-use mathlib.Core.List.{List}
-use Prim.Native.Nat.{ℕ, _*_, _≤_}
+use Prim.Native.Nat.{ℕ, _/_, _≤_}
 use native.Mathlib.Omega.{arith}
 use borrow.Author.Needs.{needs}
 use borrow.Author.Tests.{not-true, not-false}
-use lib.IntN.{ℤ, pos}
+use lib.IntN.{pos}
 use lib.ListN.{length, replicate}
-use Rattle.aries.specs.declared.job.Job.{Job}
-use Rattle.aries.specs.declared.setup.Program.{Program}
-use Rattle.aries.specs.Outcome.{refused}
+use Rattle.aries.specs.declared.state.Status.the-variants.{Passed}
 use Rattle.aries.specs.Judging.{lending, limits}
+use Rattle.aries.specs.Outcome.{refused}
 use Rattle.aries.specs.Program.{freshProgram, runFrom}
 use Rattle.aries.specs.Runs.{lent, hitsOfProgram, Ran}
 use Rattle.aries.specs.Text.{lines}
@@ -18,125 +16,77 @@ use Rattle.tolkjirp.proofs.Endings.{answers-refused, perform-refused, p
 use Rattle.tolkjirp.proofs.perform.Statement.{statement}
 use Rattle.tolkjirp.proofs.perform.Tie as tie
 
--- what the text was carried out as
+-- the run of the text, for the job of the list
 module _ (c : tie.After-run-text) where
   abbrev entry : tie.Start
   entry = c .before .before .before .before .before
 
-  abbrev list : List ℤ
-  list = entry .args .list .now
-
-  abbrev after : List ℤ
-  after = c .run-text .last .1 .0
-
-  abbrev text : List ℕ
-  text = entry .args .text .now
-
-  -- the last line of the text with its spaces
-  abbrev last : ℕ
-  last = length (lines (entry .args .whole .now))
-
-  abbrev left : Program
-  left = c .run-text .result .program
-
-  ran : Ran hitsOfProgram (lending (length list)) (c .run-text .result .status) left (lent list) (lent after) 0 (runFrom (limits (lending (length list))) text 0 1 (lines text) (freshProgram (lending (length list))))
+  ran :
+      let a = entry .args in
+      Ran hitsOfProgram (lending (length (a .list .now))) (c .run-text .result .status) (c .run-text .result .program) (lent (a .list .now)) (lent (c .run-text .last .1 .0)) 0
+      (runFrom (limits (lending (length (a .list .now)))) (a .text .now) 0 1 (lines (a .text .now)) (freshProgram (lending (length (a .list .now)))))
   ran = rw (c .before .before .lending .ensures) at (c .run-text .ensures)
 
-  kept : length after ≡ length list
-  kept = c .run-text .kept .1 .0
+  -- a list cleared as it was then is as long as it was lent
+  same : replicate (length (c .run-text .last .1 .0)) (pos 0) ≡ replicate (length (entry .args .list .now)) (pos 0)
+  same = ap (λ (n : ℕ). replicate n (pos 0)) (c .run-text .kept .1 .0)
 
-  cleared : replicate (length after) (pos 0) ≡ replicate (length list) (pos 0)
-  cleared = ap (λ (n : ℕ). replicate n (pos 0)) kept
+-- it passed
+module _ (c : tie.After-is-ended) where
+  abbrev run : tie.After-run-text
+  run = c .before .before .before .before .before
 
-lending-requires : tie.Need-lending-requires
-lending-requires c κs = search needs
-
-run-text-requires : tie.Need-run-text-requires
-run-text-requires c κs = search needs
-
-enum-known-status : tie.Need-enum-known-status
-enum-known-status c = search needs
-
-refuse-requires : tie.Need-refuse-requires
-refuse-requires c κs = search needs
-
-same-length : tie.Need-same-length
-same-length c = search needs
+  passed : run .run-text .result .status ≡ Passed
+  passed = c .before .before .enum-told .given .1
 
 returns : tie.Need-returns
 returns c =
-    let r = c .before .before .before .before .before .before .before in
     let f = c .before .refuse in
-    answers-refused (f .result) (f .last .0) (length (list r)) _ _ _ (f .ensures .0) (f .ensures .1 ∙ cleared r)
-    (perform-refused (list r) (after r) (text r) (last r) (left r) (r .run-text .result .status) (ran r) _ _ (c .before .before .before .before .status .given .1))
-
-enum-told : tie.Need-enum-told
-enum-told c = search needs
-
-is-ended-requires : tie.Need-is-ended-requires
-is-ended-requires c κs = search needs
-
-count-lines-requires : tie.Need-count-lines-requires
-count-lines-requires c κs = search needs
-
-refuse-requires-2 : tie.Need-refuse-requires-2
-refuse-requires-2 c κs = search needs
-
-same-length-2 : tie.Need-same-length-2
-same-length-2 c = search needs
+    let s = c .before .before .before .before in
+    let r = s .before .before .before in
+    let a = entry r .args in
+    answers-refused (length (a .list .now)) (f .ensures .0) (f .ensures .1 ∙ same r)
+    (perform-refused (a .list .now) (r .run-text .last .1 .0) (a .text .now) (length (lines (a .whole .now))) (ran r) (s .status .given .1))
 
 returns-2 : tie.Need-returns-2
 returns-2 c =
-    let e = c .before .before .before .before .before in
-    let told = e .before .before in
-    let r = told .before .before .before in
-    let n = c .before .before .count-lines in
     let f = c .before .refuse2 in
-    answers-refused (f .result) (f .last .0) (length (list r)) 7 (n .result) _ (f .ensures .0) (f .ensures .1 ∙ cleared r)
-    (perform-open (list r) (after r) (text r) (last r) (left r) (r .run-text .result .status) (ran r) (told .enum-told .given .1) (sym (e .is-ended .ensures) ∙ not-true (e .is-ended .result) (c .before .before .before .before .if1 .taken))
-    ∙ ap (λ (k : ℕ). refused 7 k) (sym (n .ensures)))
+    let n = c .before .before in
+    let t = n .before .before in
+    let e = t .before in
+    let r = run e in
+    let a = entry r .args in
+    answers-refused (length (a .list .now)) (f .ensures .0) (f .ensures .1 ∙ same r)
+    (perform-open (a .list .now) (r .run-text .last .1 .0) (a .text .now) (length (lines (a .whole .now))) (ran r) (passed e) (sym (e .is-ended .ensures) ∙ not-true (e .is-ended .result) (t .if1 .taken))
+    ∙ ap (λ (k : ℕ). refused 7 k) (sym (n .count-lines .ensures)))
 
 -- the hits have places in the list
-fits : (c : tie.After-is-ended) → let r = c .before .before .before .before .before in 4 * left r .progress .hits ≤ length (list r)
+fits : (c : tie.After-clear-from-arg) → let r = run (c .before .before) in r .run-text .result .program .progress .hits ≤ length (entry r .args .list .now) / 4
 fits c =
-    let told = c .before .before in
-    let r = told .before .before .before in
-    hits-fit (list r) (after r) (text r) 0 (left r) (r .run-text .result .status) (ran r) (told .enum-told .given .1)
-
-mul-clear-from : tie.Need-mul-clear-from
-mul-clear-from c = omega (arith, fits (c .before .before))
-
-clear-from-requires : tie.Need-clear-from-requires
-clear-from-requires c κs = omega (arith, fits (c .before .before), kept (c .before .before .before .before .before .before .before))
-
-same-length-3 : tie.Need-same-length-3
-same-length-3 c = search needs
+    let e = c .before .before in
+    let r = run e in
+    let a = entry r .args in
+    hits-fit (a .list .now) (r .run-text .last .1 .0) (a .text .now) 0 (ran r) (passed e)
 
 returns-3 : tie.Need-returns-3
 returns-3 c =
-    let e = c .before .before .before .before in
-    let told = e .before .before in
-    let r = told .before .before .before in
-    let f = c .before .clear-from in
-    perform-hits (list r) (after r) (text r) (last r) (left r) (r .run-text .result .status) (ran r) (told .enum-told .given .1) _ (f .last .0) (sym (e .is-ended .ensures) ∙ not-false (e .is-ended .result) (c .before .before .before .if1 .left)) (kept r) refl (f .ensures)
+    let f = c .before in
+    let i = f .before .before in
+    let e = i .before in
+    let r = run e in
+    let a = entry r .args in
+    perform-hits (a .list .now) (r .run-text .last .1 .0) (a .text .now) (length (lines (a .whole .now))) (ran r) (passed e) (f .clear-from .last .0)
+    (sym (e .is-ended .ensures) ∙ not-false (e .is-ended .result) (i .if1 .left)) (r .run-text .kept .1 .0) (f .clear-from .ensures)
 
 pub perform-spec : {M : Type 1} → statement M
 perform-spec =
     tie.close
     (tie.spec
-    lending-requires
-    run-text-requires
-    enum-known-status
-    refuse-requires
-    same-length
+    (λ c κs. search needs) (λ c κs. search needs) (λ c. search needs) (λ c κs. search needs) (λ c. search needs)
     returns
-    enum-told
-    is-ended-requires
-    count-lines-requires
-    refuse-requires-2
-    same-length-2
+    (λ c. search needs) (λ c κs. search needs) (λ c κs. search needs) (λ c κs. search needs) (λ c. search needs)
     returns-2
-    mul-clear-from
-    clear-from-requires
-    same-length-3
+    (λ c. let h = fits c in omega (arith, entry (run (c .before .before)) .good))
+    (λ c κs. let h = fits c in omega (arith, run (c .before .before) .run-text .kept .1 .0))
+    (λ c. search needs)
     returns-3)
