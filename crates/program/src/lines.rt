@@ -13,6 +13,7 @@ use aries::setup::Stage;
 use aries::state::Outcome;
 use aries::state::Progress;
 use aries::state::Status;
+use storing::open_body;
 use stretches::Stop;
 use stretches::run_stretch;
 ghost use mathlib.Core.Path.{_≡_};
@@ -198,16 +199,8 @@ pub fn run_text(job: Job, list: &mut [i32], text: &[u8]) -> Advance
                 line = place;
             }
             Next::Open(number, end, place) => {
-                let opened = storing::open_body(
-                    list,
-                    text,
-                    number,
-                    end + 1,
-                    place,
-                    setup,
-                    macros,
-                    progress,
-                );
+                let from = end + 1;
+                let opened = open_body(list, text, number, from, place, setup, macros, progress);
                 let status = opened.status;
                 if let Status::Refused(number, place) = status {
                     return Advance::refused(number, place, Program::fresh(job));

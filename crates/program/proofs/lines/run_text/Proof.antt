@@ -148,7 +148,7 @@ run-text-spec =
     (λ c. let f = c .before .before .before .before .before .before .before in let b = beyond (f .before .before .before .before .before) (f .next3 .given .1) in omega arith)
     loop-again-2
     (λ c. search needs)
-    (λ c. let f = c .before .before in let b = beyond (f .before .before .before .before .before) (f .next4 .given .1) in omega (arith, entry (f .before .before .before .before .before) .pre))
+    (λ c. let f = c .before in let b = beyond (f .before .before .before .before .before) (f .next4 .given .1) in omega (arith, entry (f .before .before .before .before .before) .pre))
     (λ c κs. let f = c .before .before in let b = beyond (f .before .before .before .before .before) (f .next4 .given .1) in omega (arith, entry (f .before .before .before .before .before) .pre))
     (λ c. search needs) (λ c κs. search needs) (λ c κs. search needs)
     (λ c. let r = c .before .before .before .before .before .before in r .open-body .kept .0 ∙ same (r .before .before .before .before .before .before .before .before))
