@@ -16,12 +16,12 @@ use Rattle.aries.specs.declared.setup.Stage.the-variants.{Fresh, Running, Stori
 use Rattle.aries.specs.declared.state.Outcome.{Outcome}
 use Rattle.aries.specs.declared.state.Progress.{Progress}
 use Rattle.aries.specs.declared.state.Status.{Status}
-use Rattle.aries.specs.Outcome.{Out, done, refused, _>>=_, need}
+use Rattle.aries.specs.Outcome.{Out, refused, _>>=_, need}
 use Rattle.aries.specs.Text.{lines}
-use Rattle.aries.specs.Hits.{Made, andThen, leaving}
+use Rattle.aries.specs.Hits.{Made, andThen}
 use Rattle.aries.specs.Judging.{Judging, limits}
-use Rattle.aries.specs.Program.{withProgress, inPlace, carryOut, settled, runFrom}
-use Rattle.aries.specs.Runs.{Lent, hitsMade, hitsOfProgram, Ran}
+use Rattle.aries.specs.Program.{inPlace, carryOut, settled, runFrom}
+use Rattle.aries.specs.Runs.{Lent, hitsOfProgram, Ran}
 use Rattle.aries.specs.Setup.{setOrigin}
 use Rattle.program.specs.declared.turn.Called.{Called}
 use Rattle.program.specs.declared.turn.Called.the-variants.{Macro, Part}
