@@ -216,36 +216,6 @@ nothing-stored : (last : ℕ) (text : List ℕ) → StoreOf last text noMacros
 unfolding bodiesOf
 nothing-stored last text = record { starts = refl; ends = refl; stored = λ n. rw (found-fresh n) tt }
 
-perform-proper : (job : Job) (text : List ℕ) (last : ℕ) → 1 ≤ last → length (lines text) ≤ last → Proper last Any (perform job text last)
-unfolding perform
-perform-proper job text last a b =
-    go (runFrom (limits job) text 0 1 (lines text) (freshProgram job))
-    (runFrom-sound last text (limits job) 0 1 (lines text) (freshProgram job) refl (omega arith) (omega arith) (nothing-stored last text))
-  where
-    ended : (t : Bool) (hits : List Hit) → Proper last Any (_>>=_ (need t 7 last) (λ _. done hits))
-    ended true hits = record { answered = tt }
-    ended false hits = record { answered = (refl, record { from = a; to = omega arith }) }
-
-    go :
-        (x : Out (Made Program)) → Sound last (Held last text) x
-        → Proper last Any (_>>=_ x (λ m. _>>=_ (need (isEnded (m .after .stage)) 7 last) (λ _. done (m .hits))))
-    go (done m) k = ended (isEnded (m .after .stage)) (m .hits)
-    go (refused number line) k = record { answered = k .answered }
-
--- 2, and what is carried out
-text-proper :
-    (text : List ℕ) (numbers : ℕ) → 1 ≤ length text
-    → Proper (length (lines text)) Any (_>>=_ (noStray (strayLine 1 text)) (λ _. perform (lending numbers) (withoutSpaces text) (length (lines text))))
-text-proper text numbers h = go (strayLine 1 text) refl
-  where
-    go :
-        (o : Option ℕ) → strayLine 1 text ≡ o
-        → Proper (length (lines text)) Any (_>>=_ (noStray o) (λ _. perform (lending numbers) (withoutSpaces text) (length (lines text))))
-    go none e = perform-proper (lending numbers) (withoutSpaces text) (length (lines text)) (lines-some text h) (lines-dense text)
-    go (some line) e =
-        let i = stray-inside text 1 line e in
-        record { answered = (refl, record { from = i .0; to = omega arith }) }
-
 within-bounds : (a b x : ℕ) → within a b x ≡ true → (a ≤ x) × (x ≤ b)
 within-bounds a b x e = go (leb a x) (leb x b) refl refl e
   where
@@ -254,26 +224,58 @@ within-bounds a b x e = go (leb a x) (leb x b) refl refl e
     go true false f g e = absurd (true≢false (sym e))
     go false q f g e = absurd (true≢false (sym e))
 
-pub refusals-named : RefusalsNamed
-unfolding expand
-refusals-named text numbers number line e = go (within 1 longest (length text)) refl e
+-- what is carried out; it ends in a line of the text
+perform-proper :
+    (last : ℕ) (job : Job) (text : List ℕ) (end : ℕ) → LineOf last end → length (lines text) ≤ last → Proper last Any (perform job text end)
+unfolding perform
+perform-proper last job text end h b =
+    go (runFrom (limits job) text 0 1 (lines text) (freshProgram job))
+    (runFrom-sound last text (limits job) 0 1 (lines text) (freshProgram job) refl (omega arith) (omega arith) (nothing-stored last text))
   where
-    past : Out (List Hit)
-    past = _>>=_ (noStray (strayLine 1 text)) (λ _. perform (lending numbers) (withoutSpaces text) (length (lines text)))
+    ended : (t : Bool) (hits : List Hit) → Proper last Any (_>>=_ (need t 7 end) (λ _. done hits))
+    ended true hits = record { answered = tt }
+    ended false hits = record { answered = (refl, h) }
 
     go :
-        (t : Bool) → within 1 longest (length text) ≡ t → _>>=_ (need t 1 0) (λ _. past) ≡ refused number line
-        → RefusalOf text number line
-    go false w e =
-        let number-is : number ≡ 1 = cc in
-        let line-is : line ≡ 0 = cc in
-        record { numbered = (omega arith, omega arith); lineless = (λ _. number-is, λ _. line-is); lined = λ other. absurd (other number-is) }
-    go true w e =
-        let a = subst (Answered (length (lines text)) Any) e (text-proper text numbers (within-bounds 1 longest (length text) w .0) .answered) in
-        let n = within-bounds 2 17 number (a .0) in
-        let l = a .1 in
-        record {
-          numbered = (omega arith, n .1);
-          lineless = (λ z. absurd (omega arith), λ z. absurd (omega arith));
-          lined = λ _. (l .from, l .to);
-        }
+        (x : Out (Made Program)) → Sound last (Held last text) x
+        → Proper last Any (_>>=_ x (λ m. _>>=_ (need (isEnded (m .after .stage)) 7 end) (λ _. done (m .hits))))
+    go (done m) k = ended (isEnded (m .after .stage)) (m .hits)
+    go (refused number line) k = record { answered = k .answered }
+
+module _ (text : List ℕ) (x : Out (List Hit)) where
+  -- 2, and what comes after it
+  noStray-proper : Proper (length (lines text)) Any x → Proper (length (lines text)) Any (_>>=_ (noStray (strayLine 1 text)) (λ _. x))
+  noStray-proper k = go (strayLine 1 text) refl
+    where
+      go : (o : Option ℕ) → strayLine 1 text ≡ o → Proper (length (lines text)) Any (_>>=_ (noStray o) (λ _. x))
+      go none e = k
+      go (some line) e =
+          let i = stray-inside text 1 line e in
+          record { answered = (refl, record { from = i .0; to = omega arith }) }
+
+  -- 1, and what comes after it
+  refusal-of :
+      (t : Bool) (number line : ℕ) → (t ≡ true → Proper (length (lines text)) Any x) → _>>=_ (need t 1 0) (λ _. x) ≡ refused number line
+      → RefusalOf text number line
+  refusal-of false number line k e =
+      let number-is : number ≡ 1 = cc in
+      let line-is : line ≡ 0 = cc in
+      record { numbered = (omega arith, omega arith); lineless = (λ _. number-is, λ _. line-is); lined = λ other. absurd (other number-is) }
+  refusal-of true number line k e =
+      let a = subst (Answered (length (lines text)) Any) e (k refl .answered) in
+      let n = within-bounds 2 17 number (a .0) in
+      let l = a .1 in
+      record {
+        numbered = (omega arith, n .1);
+        lineless = (λ z. absurd (omega arith), λ z. absurd (omega arith));
+        lined = λ _. (l .from, l .to);
+      }
+
+pub refusals-named : RefusalsNamed
+unfolding expand
+refusals-named text numbers number line e =
+    refusal-of text _ (within 1 longest (length text)) number line
+    (λ w.
+    let some = lines-some text (within-bounds 1 longest (length text) w .0) in
+    noStray-proper text _ (perform-proper (length (lines text)) (lending numbers) (withoutSpaces text) _ (record { from = some; to = omega arith }) (lines-dense text)))
+    e
