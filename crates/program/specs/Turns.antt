@@ -31,6 +31,7 @@ use Rattle.program.specs.declared.turn.Turn.{Turn}
 
 -- ---- What is left of a text
 
+-- a program by its parts
 abbrev pub program : Stage → Setup → Macros → Progress → Program
 program stage s m g = record { stage = stage; setup = s; macros = m; progress = g }
 
@@ -54,10 +55,12 @@ placed j t end line b p = do
 abbrev pub linesFrom : Judging → List ℕ → ℕ → ℕ → Program → Out (Made Program)
 linesFrom j t at line p = runFrom j t at line (lines (drop at t)) p
 
+-- the block that runs stored bodies
 abbrev pub blockOf : Called → Block
 blockOf (Macro n) = Block.Call n
 blockOf (Part c) = Block.Outside (Outside.Copy c)
 
+-- What is left, by what comes next. After a refusal nothing is, and the rest of a turn is free.
 abbrev pub leftOf : Judging → List ℕ → Next → Program → Out (Made Program)
 leftOf j t (Line at line) p = linesFrom j t at line p
 leftOf j t (Run c end line) p = andThen (carried j t end line (blockOf c) p) (linesFrom j t end line)
