@@ -29,6 +29,7 @@ use Rattle.stretches.specs.declared.Stop.{Stop}
 use Rattle.stretches.specs.declared.Stop.the-variants as Stop
 use Rattle.stretches.specs.Stretches.{Stretched, stepOf, blockStep, begunStep, lineStep, onward, stretch}
 use Rattle.stretches.proofs.Stops.{first-line}
+use Rattle.bodies.specs.Rest.{rest}
 
 -- hits, and then one thing after the other
 adding-then : (hs : List Hit) (x : Out (Made Progress)) (k : Progress → Out (Made Progress)) → adding hs (andThen x k) ≡ andThen (adding hs x) k
@@ -77,38 +78,32 @@ module _ (j : Judging) (c : Calls) (f : Frame) where
 
   -- ---- Stretch by stretch
 
-  -- what follows a stretch in a body, from the end of the line of the block that it ended at
-  abbrev pub following : List ℕ → Stop → Progress → Out (Made Progress)
-  following t Stop.End g = still g
-  following t (Stop.Call n end line) g = andThen (c f n line g) (runLines j c f line (lines (drop end t)))
-  following t (Stop.Outside o end line) g = refused 7 line
-
   module _ (t : List ℕ) where
     abbrev all : Stretched → Out (Made Progress)
-    all s = andThen (s .made) (following t (s .stop))
+    all s = andThen (s .made) (rest j c f t (s .stop))
 
     -- a line, and what follows it
     line-all :
-        (at line : ℕ) (l : List ℕ) (g : Progress) (rest : Progress → Out (Made Progress)) (later : Progress → Stretched)
+        (at line : ℕ) (l : List ℕ) (g : Progress) (next : Progress → Out (Made Progress)) (later : Progress → Stretched)
         → (at + length l < length t → getD t (at + length l) 0 ≡ lineFeed)
-        → ((g : Progress) → rest g ≡ all (later g)) → ((g : Progress) → rest g ≡ runLines j c f line (lines (drop (at + length l) t)) g)
-        → andThen (runLine j c f line l g) rest ≡ all (onward (lineStep j f (at + length l) line l g) later)
+        → ((g : Progress) → next g ≡ all (later g)) → ((g : Progress) → next g ≡ runLines j c f line (lines (drop (at + length l) t)) g)
+        → andThen (runLine j c f line l g) next ≡ all (onward (lineStep j f (at + length l) line l g) later)
     unfolding runBlock carry
-    line-all at line [] g rest later feed same past = ap (adding []) (same g) ∙ adding-then [] (later g .made) (following t (later g .stop))
-    line-all at line (b ∷ bs) g rest later feed same past = begins (begin j line (b ∷ bs) g)
+    line-all at line [] g next later feed same past = ap (adding []) (same g) ∙ adding-then [] (later g .made) (rest j c f t (later g .stop))
+    line-all at line (b ∷ bs) g next later feed same past = begins (begin j line (b ∷ bs) g)
       where
-        carried : (out : Out (Made Progress)) → andThen out rest ≡ all (onward (stepOf out) later)
-        carried (done m) = ap (adding (m .hits)) (same (m .after)) ∙ adding-then (m .hits) (later (m .after) .made) (following t (later (m .after) .stop))
+        carried : (out : Out (Made Progress)) → andThen out next ≡ all (onward (stepOf out) later)
+        carried (done m) = ap (adding (m .hits)) (same (m .after)) ∙ adding-then (m .hits) (later (m .after) .made) (rest j c f t (later (m .after) .stop))
         carried (refused number place) = refl
 
-        blocks : (d : Block) (g : Progress) → andThen (carry j c f line d g) rest ≡ all (onward (blockStep j f (at + length (b ∷ bs)) line d g) later)
+        blocks : (d : Block) (g : Progress) → andThen (carry j c f line d g) next ≡ all (onward (blockStep j f (at + length (b ∷ bs)) line d g) later)
         blocks (Block.Direct d) g = carried (carryDirect j f line d g)
-        blocks (Block.Call n) g = ap (andThen (c f n line g)) (fun-ext past) ∙ sym (still-then g (following t (Stop.Call n (at + length (b ∷ bs)) line)))
+        blocks (Block.Call n) g = ap (andThen (c f n line g)) (fun-ext past) ∙ sym (still-then g (rest j c f t (Stop.Call n (at + length (b ∷ bs)) line)))
         blocks (Block.Outside o) g = refl
 
         begins :
             (out : Out Begun)
-            → andThen (_>>=_ out (λ x. carry j c f line (x .block) (x .progress))) rest
+            → andThen (_>>=_ out (λ x. carry j c f line (x .block) (x .progress))) next
             ≡ all (onward (begunStep j f (at + length (b ∷ bs)) line out) later)
         begins (refused number place) = refl
         begins (done x) = blocks (x .block) (x .progress)

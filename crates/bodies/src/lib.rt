@@ -17,6 +17,7 @@ ghost use Rattle.aries.specs.Test.{pick};
 ghost use Rattle.aries.specs.Text.{lines};
 ghost use Rattle.stretches.specs.Stretches.{LinesFit};
 ghost use Rattle.bodies.specs.Opening.{Opens};
+ghost use Rattle.bodies.specs.Rest.{rest, RestFits};
 
 // The most calls that are open at a time.
 pub const MOST_CALLS: u8 = 4;
@@ -48,8 +49,8 @@ pub fn clip(place: usize, limit: usize) -> usize
     if limit < place { limit } else { place }
 }
 
-// The block runner: the blocks of a body from a place on, up to the first refusal, with so many calls left to open. Stretches
-// of direct blocks are carried out as such; a call between them goes to the body runner, and any other block is out of place.
+// The block runner: the blocks of a body from a place on, up to the first refusal, with so many calls left to open. Direct
+// blocks are carried out as a stretch.
 pub fn run_blocks(
     depth: u8,
     list: &mut [i32],
@@ -63,34 +64,61 @@ pub fn run_blocks(
     requires { ⌜ LinesFit (from .line) (from .at) (now body) ⌝ }
     ensures { λ r. ⌜ Carried r frame (lent (now (list .entry))) (lent (now (list .exit))) progress (λ j. runLines j (call j (bodiesOf (now (text .entry)) macros) depth) frame (from .line) (lines (drop (from .at) (now (body .entry))))) ⌝ }
 {
+    let stretch = run_stretch(list, body, from.at, from.line, frame, progress);
+    let stop = stretch.stop;
+    if stop.is_end() {
+        return stretch.outcome();
+    }
+    run_rest(
+        depth,
+        list,
+        text,
+        body,
+        stop,
+        macros,
+        frame,
+        stretch.progress,
+    )
+}
+
+// What follows a stretch in a body: a call goes to the body runner, and the next stretch begins behind it; any other block
+// is out of place.
+pub fn run_rest(
+    depth: u8,
+    list: &mut [i32],
+    text: &[u8],
+    body: &[u8],
+    from: Stop,
+    macros: Macros,
+    frame: Frame,
+    progress: Progress,
+) -> Outcome
+    requires { ⌜ RestFits (now body) from ⌝ }
+    ensures { λ r. ⌜ Carried r frame (lent (now (list .entry))) (lent (now (list .exit))) progress (λ j. rest j (call j (bodiesOf (now (text .entry)) macros) depth) frame (now (body .entry)) from) ⌝ }
+{
     let mut now = progress;
-    let mut next = from;
+    let mut stop = from;
     loop {
-        let stretch = run_stretch(list, body, next.at, next.line, frame, now);
-        let status = stretch.status;
-        let left = stretch.progress;
-        if let Status::Refused(number, place) = status {
-            return Outcome::refused(number, place, left);
-        }
-        let stop = stretch.stop;
         match stop {
             Stop::End => {
-                return Outcome::passed(left);
+                return Outcome::passed(now);
             }
             Stop::Outside(_, _, place) => {
-                return Outcome::refused(refusal::OUT_OF_PLACE, place, left);
+                return Outcome::refused(refusal::OUT_OF_PLACE, place, now);
             }
             Stop::Call(number, end, place) => {
-                let outcome = run_body(depth, list, text, number, place, macros, frame, left);
+                let outcome = run_body(depth, list, text, number, place, macros, frame, now);
                 let ended = outcome.status;
                 if let Status::Refused(_, _) = ended {
                     return outcome;
                 }
-                now = outcome.progress;
-                next = Opening {
-                    at: end,
-                    line: place,
-                };
+                let stretch = run_stretch(list, body, end, place, frame, outcome.progress);
+                let status = stretch.status;
+                now = stretch.progress;
+                stop = stretch.stop;
+                if let Status::Refused(number, line) = status {
+                    return Outcome::refused(number, line, now);
+                }
             }
         }
     }

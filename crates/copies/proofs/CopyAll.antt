@@ -12,6 +12,7 @@ use Rattle.aries.specs.declared.job.Job.{Job}
 use Rattle.aries.specs.declared.point.Located.the-variants.{At, TooFar}
 use Rattle.aries.specs.declared.point.Point.{Point}
 use Rattle.aries.specs.declared.state.Frame.{Frame}
+use Rattle.aries.specs.declared.state.Outcome.{Outcome}
 use Rattle.aries.specs.declared.state.Progress.{Progress}
 use Rattle.aries.specs.declared.state.State.{State}
 use Rattle.aries.specs.Outcome.{Out, refused}
@@ -19,6 +20,7 @@ use Rattle.aries.specs.Hits.{Made, still, andThen}
 use Rattle.aries.specs.Judging.{Judging, limits, near}
 use Rattle.aries.specs.Layouts.{Part, copyCount, copyPlace, copyStart, copy, copyAll}
 use Rattle.aries.specs.Moves.{withState}
+use Rattle.aries.specs.Runs.{Lent, Carried}
 use Rattle.aries.specs.Setup.{frameAt}
 use Rattle.aries.proofs.Runs.{still-then}
 use Rattle.placing.specs.Places.{allNear, lastCopy}
@@ -38,6 +40,13 @@ module _ (job : Job) (part : Part) (f : Frame) (line : ℕ) (found : State) (p :
   pub copy-near : near p ≡ true → copy (limits job) part f line found p g ≡ part (frameAt f p) (withState g (copyStart found p))
   unfolding copy
   copy-near e = simp e
+
+-- the part carried out at a copy's place, from the state that a copy starts with, is the copy
+pub copy-carried :
+    {r : Outcome} {before after : Lent} (part : Judging → Part) (f : Frame) (line : ℕ) (found : State) (p : Point) (g : Progress) (here : Frame) (begun : Progress)
+    → near p ≡ true → here ≡ frameAt f p → begun ≡ withState g (copyStart found p)
+    → Carried r here before after begun (λ j. part j here) → Carried r f before after g (λ j. copy j (part j) f line found p)
+copy-carried part f line found p g here begun e h b c = rw (copy-near (f .job) (part (limits (f .job))) f line found p g e) (rw (h, b) at c)
 
 -- ---- One copy and the rest
 

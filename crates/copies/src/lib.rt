@@ -16,6 +16,7 @@ use aries::state::State;
 use aries::state::Status;
 use bodies::Opening;
 use lanes::Cursor;
+use stretches::run_stretch;
 ghost use mathlib.Core.Path.{_≡_};
 ghost use Rattle.aries.specs.Layouts.{copyStart, partOf, copy, copyPart};
 ghost use Rattle.aries.specs.Macros.{bodiesOf};
@@ -50,7 +51,8 @@ fn copy_blank(
     Outcome::passed(progress.with_state(copy_start(found, point)))
 }
 
-// One copy: its place is judged, and then the part is carried out there with the state found.
+// One copy: its place is judged, and then the part is carried out there with the state found. The macro store is handed on
+// only where a stretch of direct blocks is not all.
 fn copy_at(
     list: &mut [i32],
     text: &[u8],
@@ -72,15 +74,20 @@ fn copy_at(
     };
     let here = frame.at(point);
     let begun = progress.with_state(copy_start(found, point));
-    bodies::run_blocks(
+    let stretch = run_stretch(list, body, opening.at, opening.line, here, begun);
+    let stop = stretch.stop;
+    if stop.is_end() {
+        return stretch.outcome();
+    }
+    bodies::run_rest(
         bodies::FURTHER_CALLS,
         list,
         text,
         body,
-        opening,
+        stop,
         macros,
         here,
-        begun,
+        stretch.progress,
     )
 }
 

@@ -1,7 +1,7 @@
 -- Where a stretch ends at a block: the line of that block ends behind the place where the stretch began, within the text, and
 -- its number goes up with the place.
 use mathlib.Core.Path.{_≡_, refl, sym, ap, _∙_, subst}
-use mathlib.Core.Bool.{Bool, true, false}
+use mathlib.Core.Bool.{Bool, true, false, true≢false}
 use mathlib.Core.List.{List, [], _∷_, head-eq-of-cons-eq, tail-eq-of-cons-eq}
 use Prim.Native.Nat.{ℕ, zero, suc, _+_, _<_, _≤_}
 use native.Mathlib.Omega.{arith}
@@ -13,16 +13,19 @@ use Rattle.aries.specs.declared.block.Block.{Block}
 use Rattle.aries.specs.declared.block.Block.the-variants as Block
 use Rattle.aries.specs.declared.state.Frame.{Frame}
 use Rattle.aries.specs.declared.state.Progress.{Progress}
+use Rattle.aries.specs.declared.state.Status.{Status}
+use Rattle.aries.specs.declared.state.Status.the-variants.{Passed}
 use Rattle.aries.specs.Outcome.{Out, done, refused}
-use Rattle.aries.specs.Hits.{Made}
+use Rattle.aries.specs.Hits.{Hit, Made, adding}
 use Rattle.aries.specs.Judging.{Judging}
 use Rattle.aries.specs.Macros.{carryDirect, Begun, begin}
+use Rattle.aries.specs.Runs.{statusOf}
 use Rattle.aries.specs.Text.{lines, lineFeed}
 use Rattle.text.specs.Lines.{lineLength, lineAt, lineEnd}
 use Rattle.text.proofs.Lines.{line-short, line-inside, feed-after, lines-at, lines-past}
 use Rattle.stretches.specs.declared.Stop.{Stop}
 use Rattle.stretches.specs.declared.Stop.the-variants as Stop
-use Rattle.stretches.specs.Stretches.{Stretched, Step, goes, ends, stepOf, blockStep, begunStep, lineStep, onward, stretch}
+use Rattle.stretches.specs.Stretches.{Stretched, Step, goes, ends, stepOf, blockStep, begunStep, lineStep, onward, stretch, isEnd}
 
 -- a block's line that ends at a place of a text, seen from another place and its line
 pub record Behind (t : List ℕ) (at line end place : ℕ) : Type 0 where
@@ -107,3 +110,58 @@ module _ (t : List ℕ) (j : Judging) (f : Frame) where
   -- the stretch from a place on
   pub stretch-stops : (at line : ℕ) (g : Progress) → Stops t at line (stretch j f at line (lines (drop at t)) g .stop)
   stretch-stops at line g = lines-stop (lines (drop at t)) at line g refl
+
+-- ---- Nothing follows a refusal
+
+abbrev EndsAs : Out (Made Progress) → Stop → Type 0
+EndsAs (done m) s = Unit {0}
+EndsAs (refused number line) s = s ≡ Stop.End
+
+abbrev StepEnds : Step → Type 0
+StepEnds (goes m) = Unit {0}
+StepEnds (ends s) = EndsAs (s .made) (s .stop)
+
+onward-ends :
+    (step : Step) (rest : Progress → Stretched) → StepEnds step → ((g : Progress) → EndsAs (rest g .made) (rest g .stop))
+    → EndsAs (onward step rest .made) (onward step rest .stop)
+onward-ends (ends x) rest s r = s
+onward-ends (goes m) rest s r = added (rest (m .after) .made) (rest (m .after) .stop) (r (m .after))
+  where
+    added : (out : Out (Made Progress)) (stop : Stop) → EndsAs out stop → EndsAs (adding (m .hits) out) stop
+    added (done n) stop e = tt
+    added (refused number line) stop e = e
+
+module _ (j : Judging) (f : Frame) where
+  line-ends-as : (end line : ℕ) (l : List ℕ) (g : Progress) → StepEnds (lineStep j f end line l g)
+  line-ends-as end line [] g = tt
+  line-ends-as end line (b ∷ bs) g = begins (begin j line (b ∷ bs) g)
+    where
+      carried : (out : Out (Made Progress)) → StepEnds (stepOf out)
+      carried (done m) = tt
+      carried (refused number place) = refl
+
+      blocks : (d : Block) (h : Progress) → StepEnds (blockStep j f end line d h)
+      blocks (Block.Direct d) h = carried (carryDirect j f line d h)
+      blocks (Block.Call n) h = tt
+      blocks (Block.Outside o) h = tt
+
+      begins : (out : Out Begun) → StepEnds (begunStep j f end line out)
+      begins (refused number place) = refl
+      begins (done x) = blocks (x .block) (x .progress)
+
+  lines-end-as : (ls : List (List ℕ)) (at line : ℕ) (g : Progress) → EndsAs (stretch j f at line ls g .made) (stretch j f at line ls g .stop)
+  unfolding stretch
+  lines-end-as [] at line g = tt
+  lines-end-as (l ∷ ls) at line g =
+      onward-ends (lineStep j f (at + length l) line l g) (stretch j f (at + length l + 1) (suc line) ls) (line-ends-as (at + length l) line l g)
+      (lines-end-as ls (at + length l + 1) (suc line))
+
+  -- where something follows, all went well
+  pub stretch-passes :
+      (ls : List (List ℕ)) (at line : ℕ) (g : Progress) {status : Status} → status ≡ statusOf (stretch j f at line ls g .made) → isEnd (stretch j f at line ls g .stop) ≡ false
+      → status ≡ Passed
+  stretch-passes ls at line g e h = e ∙ go (stretch j f at line ls g .made) (stretch j f at line ls g .stop) (lines-end-as ls at line g) h
+    where
+      go : (out : Out (Made Progress)) (stop : Stop) → EndsAs out stop → isEnd stop ≡ false → statusOf out ≡ Passed
+      go (done m) stop x h = refl
+      go (refused number place) stop x h = absurd (true≢false (sym (ap isEnd x) ∙ h))

@@ -1,6 +1,7 @@
 -- Direct blocks one after another: what they make, and at which block they end. They are carried out alike in a body and
 -- outside bodies.
 use mathlib.Core.Path.{_≡_}
+use mathlib.Core.Bool.{Bool, true, false}
 use mathlib.Core.List.{List, [], _∷_}
 use Prim.Native.Nat.{ℕ, suc, _+_, _-_, _<_}
 use lib.ListN.{length}
@@ -63,6 +64,12 @@ onward (goes m) rest = record { made = adding (m .hits) (rest (m .after) .made);
 unfoldable pub stretch : Judging → Frame → ℕ → ℕ → List (List ℕ) → Progress → Stretched
 stretch j f at line [] g = endingWith g Stop.End
 stretch j f at line (l ∷ ls) g = onward (lineStep j f (at + length l) line l g) (stretch j f (at + length l + 1) (suc line) ls)
+
+-- nothing follows a stretch
+abbrev pub isEnd : Stop → Bool
+isEnd Stop.End = true
+isEnd (Stop.Call n end line) = false
+isEnd (Stop.Outside o end line) = false
 
 -- the numbers of the lines from a place on, the first of which is given, fit 64 bits
 abbrev pub LinesFit : ℕ → ℕ → List ℕ → Type 0

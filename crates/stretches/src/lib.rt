@@ -5,6 +5,7 @@ use aries::block::Decoded;
 use aries::block::Outside;
 use aries::refusal;
 use aries::state::Frame;
+use aries::state::Outcome;
 use aries::state::Progress;
 use aries::state::Status;
 ghost use mathlib.Core.Path.{_≡_};
@@ -13,7 +14,7 @@ ghost use Rattle.aries.specs.declared.state.Status.the-variants.{Passed, Refuse
 ghost use Rattle.aries.specs.Runs.{lent};
 ghost use Rattle.aries.specs.Text.{lines};
 ghost use Rattle.stretches.specs.declared.Stop.the-variants.{End};
-ghost use Rattle.stretches.specs.Stretches.{stretch, LinesFit, Stretches};
+ghost use Rattle.stretches.specs.Stretches.{stretch, isEnd, LinesFit, Stretches};
 
 pub mod direct; // one direct block
 
@@ -31,6 +32,19 @@ pub enum Stop {
     Outside(Outside, usize, u64),
 }
 
+impl Stop {
+    // Whether nothing follows.
+    pub fn is_end(self) -> bool
+        ensures { λ r. ⌜ r ≡ isEnd self ⌝ }
+    {
+        match self {
+            Stop::End => true,
+            Stop::Call(_, _, _) => false,
+            Stop::Outside(_, _, _) => false,
+        }
+    }
+}
+
 // What a stretch leaves. The block that it ended at has begun. After a refusal the progress is of no account.
 pub struct Stretch {
     pub status: Status,
@@ -39,6 +53,15 @@ pub struct Stretch {
 }
 
 impl Stretch {
+    // What it leaves where nothing follows.
+    pub fn outcome(self) -> Outcome
+        ensures { λ r. ⌜ r ≡ record { status = self .status; progress = self .progress } ⌝ }
+    {
+        let status = self.status;
+        let progress = self.progress;
+        Outcome { status, progress }
+    }
+
     // All went well up to the end.
     fn passed(progress: Progress, stop: Stop) -> Stretch
         ensures { λ r. ⌜ r ≡ record { status = Passed; progress = progress; stop = stop } ⌝ }

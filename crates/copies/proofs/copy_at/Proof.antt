@@ -1,19 +1,25 @@
--- By what 15 makes of the place. Assumes nothing.
+-- By what 15 makes of the place, and by what follows the direct blocks at the front of the part.
 use borrow.Author.Needs.{needs}
 use mathlib.Core.Path.{_≡_, sym, ap, _∙_}
 use mathlib.Core.Bool.{true}
+use Prim.Native.Nat.{_-_}
+use Rattle.aries.specs.declared.state.Frame.{Frame}
+use Rattle.aries.specs.declared.state.Outcome.{Outcome}
 use Rattle.aries.specs.declared.state.Progress.{Progress}
 use Rattle.aries.specs.Outcome.{Out}
 use Rattle.aries.specs.Hits.{Made}
 use Rattle.aries.specs.Judging.{Judging, limits, near}
 use Rattle.aries.specs.Layouts.{Part, copyStart, copy}
-use Rattle.aries.specs.Macros.{bodiesOf}
+use Rattle.aries.specs.Macros.{bodiesOf, Calls, call, mostCalls}
 use Rattle.aries.specs.Moves.{withState}
 use Rattle.aries.specs.Places.{pointOf}
+use Rattle.aries.specs.Runs.{Lent, lent, Carried}
+use Rattle.aries.specs.Setup.{frameAt}
 use Rattle.aries.proofs.Carried.{carried-refused}
+use Rattle.bodies.proofs.Rest.{lines-over, lines-left, left-fits}
 use Rattle.placing.proofs.Located.{at-passed, far-failed}
 use Rattle.copies.specs.Copying.{openedPart}
-use Rattle.copies.proofs.CopyAll.{copy-far, copy-near}
+use Rattle.copies.proofs.CopyAll.{copy-far, copy-carried}
 use Rattle.copies.proofs.copy_at.Statement.{statement}
 use Rattle.copies.proofs.copy_at.Tie as tie
 
@@ -24,18 +30,6 @@ parts s j = openedPart j (bodiesOf (s .args .text .now) (s .args .macros)) (s .a
 abbrev copied : tie.Start → Judging → Progress → Out (Made Progress)
 copied s j = copy j (parts s j) (s .args .frame) (s .args .line) (s .args .found) (pointOf (s .args .place))
 
-located-requires : tie.Need-located-requires
-located-requires c κs = search needs
-
-enum-known-located : tie.Need-enum-known-located
-enum-known-located c = search needs
-
-enum-told : tie.Need-enum-told
-enum-told c = search needs
-
-refused-requires : tie.Need-refused-requires
-refused-requires c κs = search needs
-
 returns : tie.Need-returns
 returns c =
     let d = c .before .before .before in
@@ -45,44 +39,74 @@ returns c =
     carried-refused (s .args .frame) (copied s) (c .refused .ensures)
     (copy-far (s .args .frame .job) (parts s (limits (s .args .frame .job))) (s .args .frame) (s .args .line) (s .args .found) p (s .args .progress) far)
 
-at-requires : tie.Need-at-requires
-at-requires c κs = search needs
+-- the place is judged, and the stretch at the front of the part is carried out there
+module _ (e : tie.After-is-end) where
+  abbrev stretched : tie.After-run-stretch
+  stretched = e .before .before
 
-copy-start-requires : tie.Need-copy-start-requires
-copy-start-requires c κs = search needs
+  abbrev begins : tie.After-with-state
+  begins = stretched .before .before
 
-with-state-requires : tie.Need-with-state-requires
-with-state-requires c κs = search needs
+  abbrev judged : tie.After-located2
+  judged = begins .before .before .before .before
 
-run-blocks-requires : tie.Need-run-blocks-requires
-run-blocks-requires c κs = search needs
+  abbrev entry : tie.Start
+  entry = judged .before .before .before .before .before
 
-same-length : tie.Need-same-length
-same-length c = search needs
+  abbrev here : Frame
+  here = begins .before .before .at .result
+
+  abbrev begun : Progress
+  begun = begins .with-state .result
+
+  abbrev calls : Calls
+  calls = call (limits (here .job)) (bodiesOf (entry .args .text .now) (entry .args .macros)) (mostCalls - 1)
+
+  -- the part carried out here is the copy
+  is-copy : {r : Outcome} {after : Lent} → Carried r here (lent (entry .args .list .now)) after begun (λ j. parts entry j here) → Carried r (entry .args .frame) (lent (entry .args .list .now)) after (entry .args .progress) (copied entry)
+  is-copy h =
+      let p = pointOf (entry .args .place) in
+      let q = at-passed (near p) p (sym (judged .before .before .located .ensures) ∙ judged .located2 .given .1) in
+      copy-carried (parts entry) (entry .args .frame) (entry .args .line) (entry .args .found) p (entry .args .progress) here begun (q .0)
+      (begins .before .before .at .ensures ∙ ap (frameAt (entry .args .frame)) (q .1))
+      (begins .with-state .ensures ∙ ap (withState (entry .args .progress)) (begins .before .copy-start .ensures ∙ ap (copyStart (entry .args .found)) (q .1)))
+      h
 
 returns-2 : tie.Need-returns-2
 returns-2 c =
-    let w = c .before .before .before in
-    let k = w .before .before .before .before in
-    let d = k .before .before in
-    let s = d .before .before .before in
-    let p = pointOf (s .args .place) in
-    let q = at-passed (near p) p (sym (d .located .ensures) ∙ k .located2 .given .1) in
-    rw (copy-near (s .args .frame .job) (parts s (limits (s .args .frame .job))) (s .args .frame) (s .args .line) (s .args .found) p (s .args .progress) (q .0))
-    (rw (w .before .before .at .ensures, w .with-state .ensures, w .before .copy-start .ensures, q .1) at (c .before .run-blocks .ensures))
+    let e = c .before .before in
+    let a = entry e .args in
+    rw (c .outcome .ensures) (is-copy e (lines-over (calls e) (a .body .now) (a .opening .at) (a .opening .line) (stretched e .run-stretch .ensures) (sym (e .is-end .ensures) ∙ c .before .if1 .taken)))
+
+run-rest-requires : tie.Need-run-rest-requires
+run-rest-requires c κs =
+    let e = c .before .before in
+    let a = entry e .args in
+    left-fits (calls e) (a .body .now) (a .opening .at) (a .opening .line) (stretched e .run-stretch .ensures) (entry e .pre)
+
+returns-3 : tie.Need-returns-3
+returns-3 c =
+    let e = c .before .before .before .before in
+    let a = entry e .args in
+    is-copy e (lines-left (calls e) (a .body .now) (a .opening .at) (a .opening .line) (stretched e .run-stretch .ensures) (sym (e .is-end .ensures) ∙ c .before .before .before .if1 .left) _ _ _ (c .before .run-rest .ensures))
 
 pub copy-at-spec : {M : Type 1} → statement M
 copy-at-spec =
     tie.close
     (tie.spec
-    located-requires
-    enum-known-located
-    enum-told
-    refused-requires
+    (λ c κs. search needs)
+    (λ c. search needs)
+    (λ c. search needs)
+    (λ c κs. search needs)
     returns
-    at-requires
-    copy-start-requires
-    with-state-requires
-    run-blocks-requires
-    same-length
-    returns-2)
+    (λ c κs. search needs)
+    (λ c κs. search needs)
+    (λ c κs. search needs)
+    (λ c κs. search needs)
+    (λ c κs. search needs)
+    (λ c κs. search needs)
+    (λ c. search needs)
+    returns-2
+    run-rest-requires
+    (λ c. search needs)
+    returns-3)
