@@ -1,5 +1,5 @@
 -- Laws of a block that has begun, by whether it is in its place, and of G92, G93 and G98: one for each way out.
-use mathlib.Core.Path.{_≡_, refl, ap}
+use mathlib.Core.Path.{_≡_, refl}
 use mathlib.Core.Bool.{true, false}
 use mathlib.Core.List.{List}
 use Prim.Native.Nat.{ℕ}

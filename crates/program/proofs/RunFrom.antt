@@ -7,8 +7,8 @@ use native.Mathlib.Omega.{arith}
 use native.Mathlib.Numerals.{add-one}
 use borrow.Author.Tests.{eq-eqb, ne-eqb, ltb-true, ltb-false}
 use lib.Dec.{eqb, ltb}
-use lib.ListN.{length, getD, take, drop, replicate, length-take, length-drop}
-use lib.Seq.{drop-cons, drop-drop, getD-drop}
+use lib.ListN.{length, getD, drop, replicate, length-take, length-drop}
+use lib.Seq.{drop-drop, getD-drop}
 use Rattle.aries.specs.declared.block.Decoded.the-variants as Decoded
 use Rattle.aries.specs.declared.block.Instruction.{Instruction}
 use Rattle.aries.specs.declared.macros.Macros.{Macros}
@@ -27,7 +27,7 @@ use Rattle.aries.specs.Macros.{isCounted, begun, Begun, begin}
 use Rattle.aries.specs.Program.{withProgress, isStoring, passOver, runBlockOutside, runLineOutside, runFrom}
 use Rattle.aries.proofs.Runs.{still-then}
 use Rattle.text.specs.Lines.{lineLength, lineAt, lineEnd, blanks}
-use Rattle.text.proofs.Lines.{line-short, line-ends, line-goes-on, feed-after, lines-at, lines-past, lines-blanks, blanks-go-on}
+use Rattle.text.proofs.Lines.{line-short, line-goes-on, feed-after, lines-at, lines-past, lines-blanks, blanks-go-on}
 use Rattle.decode.specs.Decoding.{decodedAt}
 use Rattle.decode.proofs.Decoding.{decoded-instruction, decoded-refused}
 use Rattle.stretches.proofs.Macros.{begin-spent, begin-refused, begin-done}

@@ -2,9 +2,9 @@
 -- block that they end at and the lines behind it.
 use mathlib.Core.Path.{_≡_, refl, sym, ap, fun-ext, _∙_}
 use mathlib.Core.List.{List, [], _∷_, _++_, append-assoc}
-use Prim.Native.Nat.{ℕ, suc, _+_, _<_, _≤_}
+use Prim.Native.Nat.{ℕ, suc, _+_, _≤_}
 use native.Mathlib.Omega.{arith}
-use lib.ListN.{length, getD, drop}
+use lib.ListN.{length, drop}
 use Rattle.aries.specs.declared.block.Block.{Block}
 use Rattle.aries.specs.declared.block.Block.the-variants as Block
 use Rattle.aries.specs.declared.macros.Macros.{Macros}
@@ -14,18 +14,18 @@ use Rattle.aries.specs.declared.setup.Stage.the-variants.{Running}
 use Rattle.aries.specs.declared.state.Progress.{Progress}
 use Rattle.aries.specs.declared.state.Status.{Status}
 use Rattle.aries.specs.declared.state.Status.the-variants.{Passed, Refused}
-use Rattle.aries.specs.Outcome.{Out, done, refused, _>>=_, need}
-use Rattle.aries.specs.Text.{lines, lineFeed}
+use Rattle.aries.specs.Outcome.{Out, done, refused, _>>=_}
+use Rattle.aries.specs.Text.{lines}
 use Rattle.aries.specs.Hits.{Hit, Made, still, adding, andThen, leaving}
 use Rattle.aries.specs.Judging.{Judging, limits}
 use Rattle.aries.specs.Macros.{carryDirect, carry, Begun, begin}
-use Rattle.aries.specs.Program.{withProgress, inPlace, carryOut, runBlockOutside, runLineOutside, runFrom}
+use Rattle.aries.specs.Program.{carryOut, runBlockOutside, runLineOutside, runFrom}
 use Rattle.aries.specs.Runs.{Lent, hitsMade, hitsOfProgram, Ran}
 use Rattle.aries.specs.Setup.{ordinaryFrame}
 use Rattle.aries.proofs.Runs.{ran-refused, ran-then, ran-leaving, still-then}
 use Rattle.stretches.specs.declared.Stop.{Stop}
 use Rattle.stretches.specs.declared.Stop.the-variants as Stop
-use Rattle.stretches.specs.Stretches.{Stretched, endingWith, stepOf, blockStep, begunStep, lineStep, onward, stretch}
+use Rattle.stretches.specs.Stretches.{Stretched, stepOf, blockStep, begunStep, lineStep, onward, stretch}
 use Rattle.stretches.proofs.Stops.{Behind, first-line}
 use Rattle.stretches.proofs.Stretches.{refused-out}
 use Rattle.program.specs.declared.turn.Next.the-variants as Next

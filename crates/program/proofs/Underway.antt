@@ -1,10 +1,10 @@
 -- A text under way: whoever carries out what is left of it has carried out the whole. What each kind of turn makes of that.
 use mathlib.Core.Path.{_≡_, refl, sym, ap, subst, _∙_}
 use mathlib.Core.List.{List}
-use Prim.Native.Nat.{ℕ, _+_, _<_, _≤_}
+use Prim.Native.Nat.{ℕ, _+_, _≤_}
 use native.Mathlib.Omega.{arith}
 use lib.IntN.{ℤ}
-use lib.ListN.{length, drop}
+use lib.ListN.{length}
 use Rattle.aries.specs.declared.block.Block.{Block}
 use Rattle.aries.specs.declared.job.Job.{Job}
 use Rattle.aries.specs.declared.macros.Macros.{Macros}

@@ -16,12 +16,12 @@ use Rattle.aries.specs.declared.setup.Stage.the-variants.{Fresh, Running, Stori
 use Rattle.aries.specs.declared.state.Outcome.{Outcome}
 use Rattle.aries.specs.declared.state.Progress.{Progress}
 use Rattle.aries.specs.declared.state.Status.{Status}
-use Rattle.aries.specs.Outcome.{Out, done, refused, _>>=_, need}
+use Rattle.aries.specs.Outcome.{Out, refused, _>>=_, need}
 use Rattle.aries.specs.Text.{lines}
-use Rattle.aries.specs.Hits.{Made, andThen, leaving}
+use Rattle.aries.specs.Hits.{Made, andThen}
 use Rattle.aries.specs.Judging.{Judging, limits}
-use Rattle.aries.specs.Program.{withProgress, inPlace, carryOut, settled, runFrom}
-use Rattle.aries.specs.Runs.{Lent, hitsMade, hitsOfProgram, Ran}
+use Rattle.aries.specs.Program.{inPlace, carryOut, settled, runFrom}
+use Rattle.aries.specs.Runs.{Lent, hitsOfProgram, Ran}
 use Rattle.aries.specs.Setup.{setOrigin}
 use Rattle.program.specs.declared.turn.Called.{Called}
 use Rattle.program.specs.declared.turn.Called.the-variants.{Macro, Part}
@@ -31,6 +31,7 @@ use Rattle.program.specs.declared.turn.Turn.{Turn}
 
 -- ---- What is left of a text
 
+-- a program by its parts
 abbrev pub program : Stage → Setup → Macros → Progress → Program
 program stage s m g = record { stage = stage; setup = s; macros = m; progress = g }
 
@@ -54,10 +55,12 @@ placed j t end line b p = do
 abbrev pub linesFrom : Judging → List ℕ → ℕ → ℕ → Program → Out (Made Program)
 linesFrom j t at line p = runFrom j t at line (lines (drop at t)) p
 
+-- the block that runs stored bodies
 abbrev pub blockOf : Called → Block
 blockOf (Macro n) = Block.Call n
 blockOf (Part c) = Block.Outside (Outside.Copy c)
 
+-- What is left, by what comes next. After a refusal nothing is, and the rest of a turn is free.
 abbrev pub leftOf : Judging → List ℕ → Next → Program → Out (Made Program)
 leftOf j t (Line at line) p = linesFrom j t at line p
 leftOf j t (Run c end line) p = andThen (carried j t end line (blockOf c) p) (linesFrom j t end line)

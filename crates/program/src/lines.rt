@@ -13,11 +13,11 @@ use aries::setup::Stage;
 use aries::state::Outcome;
 use aries::state::Progress;
 use aries::state::Status;
+use storing::open_body;
 use stretches::Stop;
 use stretches::run_stretch;
-ghost use mathlib.Core.Path.{_≡_};
 ghost use Prim.Native.Nat.{_≤_, _<_, _+_};
-ghost use lib.ListN.{length, drop};
+ghost use lib.ListN.{length};
 ghost use Rattle.aries.specs.declared.setup.Stage.the-variants.{Running, Storing};
 ghost use Rattle.aries.specs.Program.{freshProgram, runFrom};
 ghost use Rattle.aries.specs.Runs.{Lent, lent, Advanced};
@@ -198,16 +198,8 @@ pub fn run_text(job: Job, list: &mut [i32], text: &[u8]) -> Advance
                 line = place;
             }
             Next::Open(number, end, place) => {
-                let opened = storing::open_body(
-                    list,
-                    text,
-                    number,
-                    end + 1,
-                    place,
-                    setup,
-                    macros,
-                    progress,
-                );
+                let from = end + 1;
+                let opened = open_body(list, text, number, from, place, setup, macros, progress);
                 let status = opened.status;
                 if let Status::Refused(number, place) = status {
                     return Advance::refused(number, place, Program::fresh(job));

@@ -33,7 +33,7 @@ pub struct Turn {
 }
 
 impl Turn {
-    // The program runs.
+    // A turn of a program that runs, or one that ends in a refusal.
     pub fn running(setup: Setup, progress: Progress, next: Next) -> Turn
         ensures { λ r. ⌜ r ≡ record { stage = Running; setup = setup; progress = progress; next = next } ⌝ }
     {

@@ -12,7 +12,7 @@ ghost use mathlib.Core.List.{_++_};
 ghost use Prim.Native.Nat.{_+_, _-_, _*_, _≤_};
 ghost use lib.IntN.{pos};
 ghost use lib.ListN.{length, take, replicate};
-ghost use Rattle.aries.specs.Text.{lines, longest, withoutSpaces, strayLine};
+ghost use Rattle.aries.specs.Text.{lines, longest};
 ghost use Rattle.aries.specs.Judging.{lending};
 ghost use Rattle.aries.specs.Program.{isEnded, perform, expand};
 ghost use Rattle.tolkjirp.specs.Answers.{Answers};

@@ -1,14 +1,10 @@
 -- The invariant: the size is that of the lines passed and of what follows from here.
-use mathlib.Core.Path.{_≡_, sym, ap, subst, _∙_}
-use mathlib.Core.Bool.{Bool, true, false}
-use mathlib.Core.List.{List}
-use Prim.Native.Nat.{ℕ, _+_, _-_, _≤_, _<_}
+use mathlib.Core.Path.{sym, _∙_}
+use Prim.Native.Nat.{_-_, _≤_}
 use native.Mathlib.Omega.{arith}
 use borrow.Author.Needs.{needs}
-use lib.ListN.{length, getD, drop}
-use Rattle.text.specs.Lines.{lineEnd}
+use lib.ListN.{length}
 use Rattle.text.proofs.Lines.{line-inside}
-use Rattle.storing.specs.Sizes.{marks}
 use Rattle.storing.proofs.Sizes.{From, from-start, from-other, sized-past, sized-own, sized-other}
 use Rattle.storing.proofs.body_size.Statement.{statement}
 use Rattle.storing.proofs.body_size.Tie as tie

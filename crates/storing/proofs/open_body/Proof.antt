@@ -1,11 +1,11 @@
 -- By the three ways through a U line. A body that is found lies within the text.
-use mathlib.Core.Path.{_≡_, refl, sym, ap, _∙_}
-use mathlib.Core.Option.{Option, none, some}
-use Prim.Native.Nat.{ℕ, _+_, _-_, _≤_, _<_}
+use mathlib.Core.Path.{_≡_, refl, sym, _∙_}
+use mathlib.Core.Option.{some}
+use Prim.Native.Nat.{ℕ, _+_, _-_, _<_}
 use native.Mathlib.Omega.{arith}
 use borrow.Author.Needs.{needs}
 use lib.ListN.{length, take, drop}
-use Rattle.aries.specs.Bodies.{bodySize, mostCharacters, firstRun, withStored}
+use Rattle.aries.specs.Bodies.{bodySize, firstRun, withStored}
 use Rattle.aries.specs.Judging.{limits}
 use Rattle.aries.specs.Macros.{characters}
 use Rattle.aries.specs.Text.{lines}

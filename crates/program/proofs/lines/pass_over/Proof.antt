@@ -1,12 +1,10 @@
 -- By the first byte of the line.
-use mathlib.Core.Path.{_≡_, refl}
+use mathlib.Core.Path.{refl}
 use Prim.Native.Nat.{_+_}
 use native.Mathlib.Omega.{arith}
 use borrow.Author.Needs.{needs}
-use lib.ListN.{length}
 use Rattle.aries.specs.declared.setup.Stage.the-variants.{Storing}
 use Rattle.aries.specs.Judging.{limits}
-use Rattle.text.specs.Lines.{lineEnd}
 use Rattle.text.proofs.Lines.{line-inside}
 use Rattle.program.specs.Turns.{Beyond}
 use Rattle.program.proofs.Turns.{turns-line}

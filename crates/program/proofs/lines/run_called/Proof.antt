@@ -1,5 +1,5 @@
 -- By what is called.
-use mathlib.Core.Path.{_≡_, refl}
+use mathlib.Core.Path.{refl}
 use borrow.Author.Needs.{needs}
 use Rattle.aries.specs.Judging.{limits}
 use Rattle.aries.specs.Layouts.{copyPart}

@@ -1,6 +1,6 @@
 -- The invariant: the text is under way. What each turn makes of that goes by what comes next.
 use mathlib.Core.Path.{_≡_, refl, _∙_}
-use Prim.Native.Nat.{ℕ, _+_, _-_}
+use Prim.Native.Nat.{_+_, _-_}
 use native.Mathlib.Omega.{arith}
 use borrow.Author.Needs.{needs}
 use lib.ListN.{length, drop}
@@ -148,7 +148,7 @@ run-text-spec =
     (λ c. let f = c .before .before .before .before .before .before .before in let b = beyond (f .before .before .before .before .before) (f .next3 .given .1) in omega arith)
     loop-again-2
     (λ c. search needs)
-    (λ c. let f = c .before .before in let b = beyond (f .before .before .before .before .before) (f .next4 .given .1) in omega (arith, entry (f .before .before .before .before .before) .pre))
+    (λ c. let f = c .before in let b = beyond (f .before .before .before .before .before) (f .next4 .given .1) in omega (arith, entry (f .before .before .before .before .before) .pre))
     (λ c κs. let f = c .before .before in let b = beyond (f .before .before .before .before .before) (f .next4 .given .1) in omega (arith, entry (f .before .before .before .before .before) .pre))
     (λ c. search needs) (λ c κs. search needs) (λ c κs. search needs)
     (λ c. let r = c .before .before .before .before .before .before in r .open-body .kept .0 ∙ same (r .before .before .before .before .before .before .before .before))

@@ -1,10 +1,9 @@
 -- One axis after the other, each by whether it is written.
-use mathlib.Core.Path.{_≡_, ap, _∙_}
+use mathlib.Core.Path.{_≡_}
 use mathlib.Core.Logic.{⊎-elim}
 use borrow.Author.Needs.{needs}
 use mir.Syntax.{w32}
 use mir.Val.{toZ, ofZ}
-use Rattle.aries.specs.declared.point.Point.{Point}
 use Rattle.aries.specs.Moves.{pointAt}
 use Rattle.aries.specs.Test.{pick}
 use Rattle.program.proofs.origins.offset_by.Statement.{statement}

@@ -3,8 +3,7 @@ use mathlib.Core.Path.{_≡_, ap₂, _∙_}
 use borrow.Author.Needs.{needs}
 use mir.Syntax.{w32, w64}
 use mir.Val.{toZ, ofZ}
-use Rattle.aries.specs.Moves.{pointAt, _⊕_}
-use Rattle.aries.specs.Setup.{referenceOf}
+use Rattle.aries.specs.Moves.{pointAt}
 use Rattle.program.proofs.origins.origin_place.Statement.{statement}
 use Rattle.program.proofs.origins.origin_place.Tie as tie
 

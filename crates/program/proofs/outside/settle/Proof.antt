@@ -1,14 +1,12 @@
 -- Each kind of block by its own clause.
-use mathlib.Core.Path.{_≡_, refl, ap}
+use mathlib.Core.Path.{refl}
 use borrow.Author.Needs.{needs}
 use Rattle.aries.specs.declared.block.Block.the-variants as Block
 use Rattle.aries.specs.declared.block.Outside.{Outside}
 use Rattle.aries.specs.declared.block.Outside.the-variants as Outside
-use Rattle.aries.specs.declared.point.Point.{Point}
 use Rattle.aries.specs.declared.setup.Stage.the-variants.{Running}
 use Rattle.aries.specs.Program.{carryOut, carryOutside}
-use Rattle.program.specs.declared.turn.Turn.{Turn}
-use Rattle.program.specs.Turns.{program, placed, Settles}
+use Rattle.program.specs.Turns.{program, placed}
 use Rattle.program.proofs.Turns.{leaves-refused, leaves-line}
 use Rattle.program.proofs.outside.settle.Statement.{statement}
 use Rattle.program.proofs.outside.settle.Tie as tie
