@@ -2,7 +2,7 @@
 -- under another job, in other lines, from other places of another text, with counts that go up by as many (`Follows`). One law
 -- a definition; a code that is added later adds a case to `carryDirect-follows`.
 use mathlib.Core.Path.{_≡_, refl, sym, ap, ap₂, _∙_, subst, fun-ext}
-use mathlib.Core.Bool.{Bool, true, false, not}
+use mathlib.Core.Bool.{Bool, true, false, not, cond, _||_}
 use mathlib.Core.List.{List, [], _∷_}
 use mathlib.Core.Option.{Option, none, some}
 use Prim.Native.Nat.{ℕ, zero, suc, _-_}
@@ -29,7 +29,6 @@ use Rattle.aries.specs.declared.state.State.{State}
 use Rattle.aries.specs.declared.state.Frame.{Frame}
 use Rattle.aries.specs.declared.state.Progress.{Progress}
 use Rattle.aries.specs.Outcome.{Out, done, refused, _>>=_, need, given, Checked, passes, fails, inLine}
-use Rattle.aries.specs.Test.{either, pick}
 use Rattle.aries.specs.Text.{lines}
 use Rattle.aries.specs.Machine.{inRange}
 use Rattle.aries.specs.Blocks.{decode}
@@ -51,7 +50,7 @@ axis-moves :
     → axisTarget a incremental (origin +ℤ d) (current +ℤ d) ≡ axisTarget a incremental origin current +ℤ d
 axis-moves a incremental o c d = go (a .written) incremental
   where
-    go : (w i : Bool) → pick w (pick i (c +ℤ d) (o +ℤ d) +ℤ a .value) (c +ℤ d) ≡ pick w (pick i c o +ℤ a .value) c +ℤ d
+    go : (w i : Bool) → cond w (cond i (c +ℤ d) (o +ℤ d) +ℤ a .value) (c +ℤ d) ≡ cond w (cond i c o +ℤ a .value) c +ℤ d
     go false i = refl
     go true true = +ℤ-swap c d (a .value)
     go true false = +ℤ-swap o d (a .value)
@@ -210,7 +209,7 @@ module _ {E : Type 0} (j : Judging) (bounds : Bool) (v : Point) (job : Job) (w :
 
     decoded-follows :
         (line line′ : ℕ) (counted : Bool) (o : Checked Instruction) (s : State) (n n′ : Counts)
-        → Follows E j v (pick counted (anotherBlock n) n) (pick counted (anotherBlock n′) n′)
+        → Follows E j v (cond counted (anotherBlock n) n) (cond counted (anotherBlock n′) n′)
         (decodedBlock j c (moved f) line counted o (movedState v s) n) (decodedBlock free c′ f line′ counted o s n′)
     decoded-follows line line′ counted (fails number) s n n′ = refusals
     decoded-follows line line′ true (passes i) s n n′ = carry-follows line line′ (i .block) (measuring s (i .measure)) (anotherBlock n) (anotherBlock n′)
@@ -233,8 +232,8 @@ module _ {E : Type 0} (j : Judging) (bounds : Bool) (v : Point) (job : Job) (w :
         go :
             (counted : Bool)
             → Follows E j v n n′
-            (_>>=_ (need (either (not counted) (room (j .blocks) (n .blocks))) 3 line) (λ _. decodedBlock j c (moved f) line counted (decode l) (movedState v s) n))
-            (_>>=_ (need (either (not counted) (room none (n′ .blocks))) 3 line′) (λ _. decodedBlock free c′ f line′ counted (decode l) s n′))
+            (_>>=_ (need (not counted || room (j .blocks) (n .blocks)) 3 line) (λ _. decodedBlock j c (moved f) line counted (decode l) (movedState v s) n))
+            (_>>=_ (need (not counted || room none (n′ .blocks)) 3 line′) (λ _. decodedBlock free c′ f line′ counted (decode l) s n′))
         go true = follows-counted 3 line (decoded-follows line line′ true (decode l) s n n′)
         go false = decoded-follows line line′ false (decode l) s n n′
 

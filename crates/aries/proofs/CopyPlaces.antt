@@ -1,7 +1,7 @@
 -- The places of copies: columns and rows are those of the paper's sentences on m, each cell has its copy in both orders, and
 -- places go with the origin.
 use mathlib.Core.Path.{_≡_, refl, sym, ap, ap₂, _∙_}
-use mathlib.Core.Bool.{Bool, true, false}
+use mathlib.Core.Bool.{Bool, true, false, cond}
 use Prim.Native.Nat.{ℕ, suc, _+_, _*_, _-_, _/_, _%_, _<_, _≤_}
 use native.Mathlib.Nat.{add-mul}
 use native.Mathlib.Numerals.{add-one}
@@ -12,7 +12,6 @@ use lib.IntN.{ℤ, pos, _+ℤ_, _-ℤ_, +ℤ-assoc, +ℤ-negℤ-cancel, pos-+ℤ
 use Rattle.aries.specs.declared.point.Point.{Point}
 use Rattle.aries.specs.declared.block.Layout.{Layout}
 use Rattle.aries.specs.declared.block.Copies.{Copies}
-use Rattle.aries.specs.Test.{pick}
 use Rattle.aries.specs.Moves.{pointAt, _⊕_}
 use Rattle.aries.specs.Lanes.{lane, along}
 use Rattle.aries.specs.Layouts.{copyCount, columnOf, rowOf, fromRight, fromTop, facing, placeAt, copyPlace}
@@ -22,16 +21,16 @@ use Rattle.aries.proofs.Lanes.{lane-bound, along-bound, numberOf, numbe
 
 -- ---- The paper's cells
 
-parity : (i a b : ℕ) → pick (eqb (i % 2) 0) a b ≡ pick (eqb (i % 2) 1) b a
+parity : (i a b : ℕ) → cond (eqb (i % 2) 0) a b ≡ cond (eqb (i % 2) 1) b a
 parity i a b = go (eqb (i % 2) 0) refl
   where
-    go : (t : Bool) → eqb (i % 2) 0 ≡ t → pick t a b ≡ pick (eqb (i % 2) 1) b a
+    go : (t : Bool) → eqb (i % 2) 0 ≡ t → cond t a b ≡ cond (eqb (i % 2) 1) b a
     go true e =
         let z : i % 2 ≡ 0 = eqb-true (i % 2) 0 e in
-        ap (λ (t : Bool). pick t b a) (sym (ne-eqb (i % 2) 1 (λ o. omega arith)))
+        ap (λ (t : Bool). cond t b a) (sym (ne-eqb (i % 2) 1 (λ o. omega arith)))
     go false e =
         let n = eqb-false (i % 2) 0 e in
-        ap (λ (t : Bool). pick t b a) (sym (eq-eqb (i % 2) 1 (omega arith)))
+        ap (λ (t : Bool). cond t b a) (sym (eq-eqb (i % 2) 1 (omega arith)))
 
 along-is : (last m : ℕ) → along last m ≡ backAndForth last (m / (last + 1)) (m % (last + 1))
 along-is last m =

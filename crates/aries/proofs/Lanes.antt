@@ -1,12 +1,11 @@
 -- Places counted back and forth through lanes of equal length: each lane and distance has its place, bounds, the first
 -- lane, and lanes of one place.
 use mathlib.Core.Path.{_≡_, refl, ap, ap₂, _∙_}
-use mathlib.Core.Bool.{Bool, true, false}
+use mathlib.Core.Bool.{Bool, true, false, cond}
 use Prim.Native.Nat.{ℕ, suc, _+_, _*_, _-_, _/_, _%_, _<_, _≤_}
 use native.Mathlib.Nat.{mul-le-mul, le-refl, mod-lt, mod-eq-of-lt, div-eq-of-lt, div-lt-iff-lt-mul, mul-add-div-right, mul-add-mod-self-right}
 use native.Mathlib.Omega.{arith}
 use lib.Dec.{eqb}
-use Rattle.aries.specs.Test.{pick}
 use Rattle.aries.specs.Lanes.{lane, along}
 
 -- ---- The place of a lane and a distance along it
@@ -14,7 +13,7 @@ use Rattle.aries.specs.Lanes.{lane, along}
 module _ (last i k : ℕ) where
   -- the rest of the place's number
   rest : ℕ
-  rest = pick (eqb (i % 2) 0) k (last - k)
+  rest = cond (eqb (i % 2) 0) k (last - k)
 
   abbrev pub numberOf : ℕ
   unfolding rest
@@ -24,7 +23,7 @@ module _ (last i k : ℕ) where
   unfolding rest
   rest-bound h = go (eqb (i % 2) 0)
     where
-      go : (b : Bool) → pick b k (last - k) ≤ last
+      go : (b : Bool) → cond b k (last - k) ≤ last
       go true = h
       go false = omega arith
 
@@ -45,14 +44,14 @@ module _ (last i k : ℕ) where
   pub along-numberOf : k ≤ last → along last numberOf ≡ k
   unfolding rest
   along-numberOf l =
-      ap₂ (λ (a b : ℕ). pick (eqb (a % 2) 0) b (last - b)) (lane-numberOf l)
+      ap₂ (λ (a b : ℕ). cond (eqb (a % 2) 0) b (last - b)) (lane-numberOf l)
       (mul-add-mod-self-right i (suc last) rest ∙ mod-eq-of-lt r)
       ∙ go (eqb (i % 2) 0)
     where
       r : rest < suc last
       r = let b = rest-bound l in omega arith
 
-      go : (b : Bool) → pick b (pick b k (last - k)) (last - pick b k (last - k)) ≡ k
+      go : (b : Bool) → cond b (cond b k (last - k)) (last - cond b k (last - k)) ≡ k
       go true = refl
       go false = omega arith
 
@@ -66,7 +65,7 @@ lane-bound last lanes m h =
 pub along-bound : (last m : ℕ) → along last m ≤ last
 along-bound last m = go (eqb (lane last m % 2) 0)
   where
-    go : (b : Bool) → pick b (m % suc last) (last - m % suc last) ≤ last
+    go : (b : Bool) → cond b (m % suc last) (last - m % suc last) ≤ last
     go true = let r : m % suc last < suc last = mod-lt m (omega arith) in omega arith
     go false = omega arith
 

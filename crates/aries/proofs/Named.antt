@@ -1,12 +1,11 @@
 -- Laws of `named`, one for each way the tests of a G92 pair go: first its Y, then its X.
 use mathlib.Core.Path.{_≡_, refl}
-use mathlib.Core.Bool.{Bool, true, false}
+use mathlib.Core.Bool.{Bool, true, false, cond, _&&_}
 use lib.IntN.{pos}
 use Rattle.signed.specs.Signed.{eqZ}
 use Rattle.aries.specs.declared.point.Point.{Point}
 use Rattle.aries.specs.declared.machine.Machine.the-variants.{Aries222, Aries224}
 use Rattle.aries.specs.declared.machine.Named.the-variants.{As, Neither}
-use Rattle.aries.specs.Test.{both, pick}
 use Rattle.aries.specs.Machine.{named}
 
 module _ (p : Point) where
@@ -26,7 +25,7 @@ module _ (p : Point) where
   unfolding named
   named-other-y y = rw y (neither (eqZ (p .x) (pos 60000)) (eqZ (p .x) (pos 100000)))
     where
-      neither : (a b : Bool) → pick (both a false) (As Aries222) (pick (both b false) (As Aries224) Neither) ≡ Neither
+      neither : (a b : Bool) → cond (a && false) (As Aries222) (cond (b && false) (As Aries224) Neither) ≡ Neither
       neither true true = refl
       neither true false = refl
       neither false true = refl

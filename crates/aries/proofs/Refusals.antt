@@ -1,7 +1,7 @@
 -- Demand 1, of refusals: past 1 each has a number from 2 to 17 and the line of a block that is carried out (`Sound`). Of the
 -- blocks of bodies too that is a line of the text: wherever a program comes, all that is stored lies within its lines.
 use mathlib.Core.Path.{_≡_, refl, sym, ap, _∙_, subst}
-use mathlib.Core.Bool.{Bool, true, false, true≢false}
+use mathlib.Core.Bool.{Bool, true, false, true≢false, cond, _&&_}
 use mathlib.Core.List.{List, [], _∷_}
 use mathlib.Core.Option.{Option, none, some}
 use Prim.Native.Nat.{ℕ, suc, _+_, _-_, _≤_, _<_}
@@ -27,7 +27,7 @@ use Rattle.aries.specs.declared.setup.Stage.the-variants.{Running}
 use Rattle.aries.specs.declared.setup.Setup.{Setup}
 use Rattle.aries.specs.declared.setup.Program.{Program}
 use Rattle.aries.specs.declared.state.Progress.{Progress}
-use Rattle.aries.specs.Test.{both, pick, within}
+use Rattle.aries.specs.Test.{within}
 use Rattle.aries.specs.Outcome.{Out, done, refused, _>>=_, need}
 use Rattle.aries.specs.Letters.{letterV}
 use Rattle.aries.specs.Text.{longest, startsWith, strayLine, withoutSpaces, lines}
@@ -62,7 +62,7 @@ module _ (last : ℕ) (text : List ℕ) where
         let h″ : n < length (m .end) = omega (arith, s .ends) in
         rw (getD-set-same (m .line) n line 0 h, getD-set-same (m .start) n start 0 h′, getD-set-same (m .end) n end 0 h″) (go (ltb 0 line))
       where
-        go : (t : Bool) → Each (BodyOf last) (bodyAt text (pick t (Found.Body start end line) Found.Nothing))
+        go : (t : Bool) → Each (BodyOf last) (bodyAt text (cond t (Found.Body start end line) Found.Nothing))
         go true = b
         go false = tt
 
@@ -219,7 +219,7 @@ nothing-stored last text = record { starts = refl; ends = refl; stored = λ n. r
 within-bounds : (a b x : ℕ) → within a b x ≡ true → (a ≤ x) × (x ≤ b)
 within-bounds a b x e = go (leb a x) (leb x b) refl refl e
   where
-    go : (p q : Bool) → leb a x ≡ p → leb x b ≡ q → both p q ≡ true → (a ≤ x) × (x ≤ b)
+    go : (p q : Bool) → leb a x ≡ p → leb x b ≡ q → (p && q) ≡ true → (a ≤ x) × (x ≤ b)
     go true true f g e = (leb-true a x f, leb-true x b g)
     go true false f g e = absurd (true≢false (sym e))
     go false q f g e = absurd (true≢false (sym e))

@@ -1,7 +1,7 @@
 -- Past 1, what is refused has a number from 2 to 17 and a line of the text: one law a definition, from a hit up to the copies of
 -- a part, where all that is stored lies within the lines of the text.
 use mathlib.Core.Path.{_≡_, refl}
-use mathlib.Core.Bool.{Bool, true, false}
+use mathlib.Core.Bool.{Bool, true, false, cond}
 use mathlib.Core.List.{List, [], _∷_}
 use mathlib.Core.Option.{Option, none, some}
 use Prim.Native.Nat.{ℕ, zero, suc, _+_, _-_, _≤_}
@@ -26,7 +26,7 @@ use Rattle.aries.specs.declared.state.State.{State}
 use Rattle.aries.specs.declared.state.Stored.{Stored}
 use Rattle.aries.specs.declared.state.Stored.the-variants.{Empty, Kept}
 use Rattle.aries.specs.declared.word.Words.{Words}
-use Rattle.aries.specs.Test.{within, pick}
+use Rattle.aries.specs.Test.{within}
 use Rattle.aries.specs.Outcome.{Out, done, refused, _>>=_, need, given, passes, fails, inLine}
 use Rattle.aries.specs.Text.{lines}
 use Rattle.aries.specs.Words.{words}
@@ -187,7 +187,7 @@ module _ {last : ℕ} where
   decoded-proper line h none = record { answered = (refl, h) }
   decoded-proper line h (some w) = go (isListed w (kindOf w)) (isRanged w (kindOf w))
     where
-      go : (listed ranged : Bool) → Proper last Any (inLine line (pick listed (pick ranged (passes (instructionOf w)) (fails 6)) (fails 5)))
+      go : (listed ranged : Bool) → Proper last Any (inLine line (cond listed (cond ranged (passes (instructionOf w)) (fails 6)) (fails 5)))
       go false ranged = record { answered = (refl, h) }
       go true false = record { answered = (refl, h) }
       go true true = record { answered = tt }

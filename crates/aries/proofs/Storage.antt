@@ -12,7 +12,6 @@ use lib.Seq.{set-out, drop-cons}
 use Rattle.aries.specs.declared.macros.Macros.{Macros}
 use Rattle.aries.specs.declared.macros.Found.{Found}
 use Rattle.aries.specs.declared.macros.Found.the-variants.{Body, Nothing}
-use Rattle.aries.specs.Test.{pick}
 use Rattle.aries.specs.Macros.{noMacros, foundIn, storing, sizes}
 
 -- ---- Finding a body

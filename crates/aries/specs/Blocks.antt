@@ -1,6 +1,6 @@
 -- Blocks: codes, letters and numbers, and what a block asks for. (Document 01, "Text, words, units", "Moving and punching",
 -- "Patterns", "Macros and layouts"; refusals 4, 5 and 6, each of which looks at the whole block before the next does.)
-use mathlib.Core.Bool.{Bool, true, false, not}
+use mathlib.Core.Bool.{Bool, true, false, not, cond, _&&_, _||_}
 use mathlib.Core.List.{List, [], _∷_, _++_}
 use mathlib.Core.Option.{Option, none, some}
 use Prim.Native.Nat.{ℕ, suc, _+_}
@@ -32,7 +32,7 @@ use Rattle.aries.specs.declared.block.Measure.the-variants.{Kept, Absolu
 use Rattle.aries.specs.declared.block.Instruction.{Instruction}
 use Rattle.aries.specs.Letters.{letterA, letterB, letterD, letterI, letterJ, letterK, letterM, letterN, letterP, letterQ, letterT, letterU, letterV, letterW, letterX, letterY}
 use Rattle.aries.specs.Outcome.{Checked, passes, fails}
-use Rattle.aries.specs.Test.{both, either, within, among, every, pick}
+use Rattle.aries.specs.Test.{within, among, every}
 use Rattle.aries.specs.Text.{bytes}
 use Rattle.aries.specs.Words.{at, has, isPlain, words}
 
@@ -41,7 +41,7 @@ use Rattle.aries.specs.Words.{at, has, isPlain, words}
 -- the first entry with a number, else the value at hand
 abbrev pub lookup : {A : Type 0} → List (ℕ × A) → ℕ → A → A
 lookup [] n other = other
-lookup (e ∷ es) n other = pick (eqb n (e .0)) (e .1) (lookup es n other)
+lookup (e ∷ es) n other = cond (eqb n (e .0)) (e .1) (lookup es n other)
 
 -- the base codes; every other one is unknown
 abbrev pub codes : List (ℕ × Kind)
@@ -52,15 +52,15 @@ codes =
 -- a block without a code: by the letter that stands alone, or by its axes
 abbrev pub plainKind : Words → Kind
 plainKind w =
-    pick (has w letterM) LetterM
-    (pick (has w letterB) LetterB
-    (pick (has w letterU) LetterU
-    (pick (has w letterV) LetterV
-    (pick (has w letterW) LetterW
-    (pick (either (has w letterX) (has w letterY)) Position Lone)))))
+    cond (has w letterM) LetterM
+    (cond (has w letterB) LetterB
+    (cond (has w letterU) LetterU
+    (cond (has w letterV) LetterV
+    (cond (has w letterW) LetterW
+    (cond (has w letterX || has w letterY) Position Lone)))))
 
 unfoldable pub kindOf : Words → Kind
-kindOf w = pick (w .coded) (lookup codes (w .code) Unknown) (plainKind w)
+kindOf w = cond (w .coded) (lookup codes (w .code) Unknown) (plainKind w)
 
 -- ---- Letters (refusal 5)
 
@@ -108,7 +108,7 @@ formOf Unknown = form "" "" "" neither
 -- how many of the letters stand in a block
 abbrev pub present : Words → List ℕ → ℕ
 present w [] = 0
-present w (l ∷ ls) = pick (has w l) 1 0 + present w ls
+present w (l ∷ ls) = cond (has w l) 1 0 + present w ls
 
 abbrev pub oneOfThem : Words → List ℕ → Bool
 oneOfThem w [] = true
@@ -118,13 +118,11 @@ oneOfThem w (l ∷ ls) = leb 1 (present w (l ∷ ls))
 -- are no others where the words are as many as the listed letters among them.
 abbrev pub lettersFit : Words → Form → Bool
 lettersFit w f =
-    both (eqb (present w (bytes (f .must))) (length (bytes (f .must))))
-    (both (oneOfThem w (bytes (f .oneOf)))
-    (eqb (w .others) (present w (bytes (f .must) ++ (bytes (f .oneOf) ++ bytes (f .may))))))
+    eqb (present w (bytes (f .must))) (length (bytes (f .must))) && (oneOfThem w (bytes (f .oneOf)) && eqb (w .others) (present w (bytes (f .must) ++ (bytes (f .oneOf) ++ bytes (f .may)))))
 
 abbrev pub besideFits : Words → Beside → Bool
 besideFits w neither = not (w .read)
-besideFits w absoluteOnly = not (both (w .read) (w .incremental))
+besideFits w absoluteOnly = not (w .read && w .incremental)
 besideFits w anyOfBoth = true
 besideFits w required = w .read
 
@@ -145,7 +143,7 @@ kindFits w G93 = true
 kindFits w G98 = true
 kindFits w Position = true
 kindFits w Lone = true
-kindFits w LetterM = both (isPlain (at w letterM)) (among (0 ∷ 1 ∷ 8 ∷ 9 ∷ 12 ∷ 13 ∷ []) (natAbs (at w letterM .value)))
+kindFits w LetterM = isPlain (at w letterM) && among (0 ∷ 1 ∷ 8 ∷ 9 ∷ 12 ∷ 13 ∷ []) (natAbs (at w letterM .value))
 kindFits w LetterB = true
 kindFits w LetterU = not (has w letterN)
 kindFits w LetterV = not (has w letterN)
@@ -155,10 +153,7 @@ kindFits w Unknown = false
 unfoldable pub isListed : Words → Kind → Bool
 unfolding bytes
 isListed w k =
-    both (not (w .misplaced))
-    (both (kindFits w k)
-    (both (besideFits w (formOf k .beside))
-    (lettersFit w (formOf k))))
+    not (w .misplaced) && (kindFits w k && (besideFits w (formOf k .beside) && lettersFit w (formOf k)))
 
 -- ---- Numbers (refusal 6)
 
@@ -173,8 +168,8 @@ pub data Range : Type 0 where
 abbrev pub inRange : Range → Word → Bool
 inRange aboveZero v = ltZ (pos 0) (v .value)
 inRange notNegative v = not (ltZ (v .value) (pos 0))
-inRange (whole least most) v = both (isPlain v) (within least most (natAbs (v .value)))
-inRange (signedWhole least most) v = both (not (v .pointed)) (within least most (natAbs (v .value)))
+inRange (whole least most) v = isPlain v && within least most (natAbs (v .value))
+inRange (signedWhole least most) v = not (v .pointed) && within least most (natAbs (v .value))
 
 -- the letters of a kind of block whose numbers are limited; others are lengths or angles without a limit
 abbrev pub rangesOf : Kind → List (ℕ × Range)
@@ -208,10 +203,10 @@ commonRanges = (letterN, whole 0 9999) ∷ (letterT, whole 1 99) ∷ (letterA, w
 
 -- an absent word passes
 abbrev pub numberFits : Words → ℕ × Range → Bool
-numberFits w e = either (not (has w (e .0))) (inRange (e .1) (at w (e .0)))
+numberFits w e = not (has w (e .0)) || inRange (e .1) (at w (e .0))
 
 unfoldable pub isRanged : Words → Kind → Bool
-isRanged w k = both (every (numberFits w) (rangesOf k)) (every (numberFits w) commonRanges)
+isRanged w k = every (numberFits w) (rangesOf k) && every (numberFits w) commonRanges
 
 -- ---- What a block asks for
 
@@ -266,7 +261,7 @@ run w p = Block.Direct (direct.Run p (count w letterT) (count w letterA))
 
 -- M12 and M13 set the mode; M00, M01, M08 and M09 make no hit
 abbrev pub mBlock : ℕ → Block
-mBlock n = Block.Direct (pick (eqb n 12) (direct.Nibble true) (pick (eqb n 13) (direct.Nibble false) direct.Idle))
+mBlock n = Block.Direct (cond (eqb n 12) (direct.Nibble true) (cond (eqb n 13) (direct.Nibble false) direct.Idle))
 
 -- (a code that is unknown has been refused by 5)
 unfoldable pub blockOf : Words → Kind → Block
@@ -294,7 +289,7 @@ blockOf w Unknown = Block.Direct direct.Idle
 
 -- the G90 or G91 of a block
 unfoldable pub measureOf : Words → Measure
-measureOf w = pick (w .read) (pick (w .incremental) Incremental Absolute) Kept
+measureOf w = cond (w .read) (cond (w .incremental) Incremental Absolute) Kept
 
 abbrev pub instructionOf : Words → Instruction
 instructionOf w = record { measure = measureOf w; block = blockOf w (kindOf w) }
@@ -302,7 +297,7 @@ instructionOf w = record { measure = measureOf w; block = blockOf w (kindOf w) }
 -- the instruction of a block from its words: 5, then 6
 unfoldable pub decodeWords : Words → Checked Instruction
 unfolding kindOf isListed isRanged blockOf measureOf
-decodeWords w = pick (isListed w (kindOf w)) (pick (isRanged w (kindOf w)) (passes (instructionOf w)) (fails 6)) (fails 5)
+decodeWords w = cond (isListed w (kindOf w)) (cond (isRanged w (kindOf w)) (passes (instructionOf w)) (fails 6)) (fails 5)
 
 abbrev pub decoded : Option Words → Checked Instruction
 decoded none = fails 4

@@ -1,6 +1,6 @@
 -- U and V lines: where the body of a U line ends, storing it, and its first run. (Document 01, "Macros and layouts";
 -- refusals 9 and 12.)
-use mathlib.Core.Bool.{Bool, true, false}
+use mathlib.Core.Bool.{Bool, true, false, cond, _||_}
 use mathlib.Core.List.{List, [], _∷_}
 use mathlib.Core.Option.{Option, none, some}
 use Prim.Native.Nat.{ℕ, suc, _+_, _-_}
@@ -17,7 +17,6 @@ use Rattle.aries.specs.declared.setup.Sheet.the-variants.{Plain, LaidOut
 use Rattle.aries.specs.declared.setup.Setup.{Setup}
 use Rattle.aries.specs.declared.state.Progress.{Progress}
 use Rattle.aries.specs.Outcome.{Out, done, refused, _>>=_, need, given, Checked, passes, fails}
-use Rattle.aries.specs.Test.{either, pick}
 use Rattle.aries.specs.Letters.{letterU, letterV}
 use Rattle.aries.specs.Text.{startsWith}
 use Rattle.aries.specs.Blocks.{decode}
@@ -54,7 +53,7 @@ isOwnClose n l = isCloseOf n (decode l)
 
 -- a U or V line
 abbrev pub isMark : List ℕ → Bool
-isMark l = either (startsWith letterU l) (startsWith letterV l)
+isMark l = startsWith letterU l || startsWith letterV l
 
 abbrev pub longer : ℕ → Option ℕ → Option ℕ
 longer k none = none
@@ -65,7 +64,7 @@ unfoldable pub bodySize : ℕ → List (List ℕ) → Option ℕ
 unfolding isOwnClose
 bodySize n [] = none
 bodySize n (l ∷ ls) = elim (isMark l) [
-  | true ↦ pick (isOwnClose n l) (some 0) none
+  | true ↦ cond (isOwnClose n l) (some 0) none
   | false ↦ longer (length l + 1) (bodySize n ls)
 ]
 

@@ -2,7 +2,7 @@
 -- those of document 01, "For demand 3, a run is ..".
 use mathlib.Core.Path.{_≡_}
 use mathlib.Core.Logic.{_↔_}
-use mathlib.Core.Bool.{Bool, true, false}
+use mathlib.Core.Bool.{Bool, true, false, cond, _||_}
 use mathlib.Core.List.{List, [], _∷_, _++_, map}
 use mathlib.Core.Option.{Option, none, some}
 use Prim.Native.Nat.{ℕ, zero, suc, _+_, _-_, _*_, _/_, _%_}
@@ -17,7 +17,6 @@ use Rattle.aries.specs.declared.setup.Setup.{Setup}
 use Rattle.aries.specs.declared.state.State.{State}
 use Rattle.aries.specs.declared.state.Progress.{Progress}
 use Rattle.aries.specs.Outcome.{Out, done, refused}
-use Rattle.aries.specs.Test.{either, pick}
 use Rattle.aries.specs.Hits.{Hit, Made}
 use Rattle.aries.specs.Judging.{Judging, limits, unjudged}
 use Rattle.aries.specs.Moves.{pointAt, zeroPoint, _⊕_, withState}
@@ -92,7 +91,7 @@ pub record Cell : Type 0 where
 
 -- the rest, or the last less the rest where the other count is odd
 abbrev pub backAndForth : ℕ → ℕ → ℕ → ℕ
-backAndForth last count rest = pick (eqb (count % 2) 1) (last - rest) rest
+backAndForth last count rest = cond (eqb (count % 2) 1) (last - rest) rest
 
 -- In G75, r is m / (P + 1), rest dropped; c is the rest, or P less the rest where r is odd.
 abbrev pub cell75 : ℕ → ℕ → Cell
@@ -115,8 +114,8 @@ coordinate false origin last n pitch = origin +ℤ pos (n * pitch)
 abbrev pub placeOf : Point → Layout → ℕ → Cell → Point
 placeOf origin l q x =
     pointAt
-    (coordinate (either (eqb q 2) (eqb q 4)) (origin .x) (l .steps .x) (x .c) (l .pitch .x))
-    (coordinate (either (eqb q 3) (eqb q 4)) (origin .y) (l .steps .y) (x .r) (l .pitch .y))
+    (coordinate (eqb q 2 || eqb q 4) (origin .x) (l .steps .x) (x .c) (l .pitch .x))
+    (coordinate (eqb q 3 || eqb q 4) (origin .y) (l .steps .y) (x .r) (l .pitch .y))
 
 -- the lists of m, m + 1, .., so many of them, one after the other
 unfoldable pub joined : {A : Type 0} → (ℕ → List A) → ℕ → ℕ → List A

@@ -1,13 +1,12 @@
 -- What is judged besides the block itself: refusals 3, 15, 16 and 17, or none of them. (Document 01, the seventeen
 -- refusals, and "own hits" in the paragraph on demand 3.)
-use mathlib.Core.Bool.{Bool, true, false}
+use mathlib.Core.Bool.{Bool, true, false, _&&_}
 use mathlib.Core.Option.{Option, none, some}
 use Prim.Native.Nat.{ℕ, _/_}
 use lib.Dec.{leb, ltb}
 use lib.IntN.{ℤ, natAbs}
 use Rattle.aries.specs.declared.job.Job.{Job}
 use Rattle.aries.specs.declared.point.Point.{Point}
-use Rattle.aries.specs.Test.{both}
 
 -- What the caller fixes for a whole text, by lending a list of so many numbers: four are a place, fewer at its end are
 -- none.
@@ -50,4 +49,4 @@ abbrev pub isNear : ℤ → Bool
 isNear z = leb (natAbs z) farthest
 
 unfoldable pub near : Point → Bool
-near p = both (isNear (p .x)) (isNear (p .y))
+near p = isNear (p .x) && isNear (p .y)

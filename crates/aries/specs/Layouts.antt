@@ -1,6 +1,6 @@
 -- Layouts: the places of G98 and the order in which G75 and G76 copy a part to them. (Document 01, "Macros and layouts"
 -- and the paragraph on demand 3; refusals 10, 13 and 15.)
-use mathlib.Core.Bool.{Bool, true, false}
+use mathlib.Core.Bool.{Bool, true, false, cond, _||_}
 use mathlib.Core.List.{List, [], _∷_}
 use Prim.Native.Nat.{ℕ, zero, suc, _+_, _-_, _*_}
 use lib.Dec.{leb, eqb}
@@ -16,7 +16,6 @@ use Rattle.aries.specs.declared.state.State.{State}
 use Rattle.aries.specs.declared.state.Frame.{Frame}
 use Rattle.aries.specs.declared.state.Progress.{Progress}
 use Rattle.aries.specs.Outcome.{Out, done, refused, _>>=_, need, given}
-use Rattle.aries.specs.Test.{either, pick}
 use Rattle.aries.specs.Hits.{Made, still, andThen}
 use Rattle.aries.specs.Judging.{Judging, judged, near}
 use Rattle.aries.specs.Lanes.{lane, along}
@@ -32,18 +31,18 @@ copyCount l = suc (l .steps .x) * suc (l .steps .y)
 
 -- the column of copy m, in pitches from the first place: c of the paragraph on demand 3
 abbrev pub columnOf : Bool → Layout → ℕ → ℕ
-columnOf vertical l m = pick vertical (lane (l .steps .y) m) (along (l .steps .x) m)
+columnOf vertical l m = cond vertical (lane (l .steps .y) m) (along (l .steps .x) m)
 
 -- its row: r
 abbrev pub rowOf : Bool → Layout → ℕ → ℕ
-rowOf vertical l m = pick vertical (along (l .steps .y) m) (lane (l .steps .x) m)
+rowOf vertical l m = cond vertical (along (l .steps .y) m) (lane (l .steps .x) m)
 
 -- Q names the first place: 1 lower left, 2 lower right, 3 upper left, 4 upper right
 abbrev pub fromRight : ℕ → Bool
-fromRight q = either (eqb q 2) (eqb q 4)
+fromRight q = eqb q 2 || eqb q 4
 
 abbrev pub fromTop : ℕ → Bool
-fromTop q = either (eqb q 3) (eqb q 4)
+fromTop q = eqb q 3 || eqb q 4
 
 -- counted from the far end, or from the near one
 abbrev pub facing : Bool → ℕ → ℕ → ℕ

@@ -1,5 +1,5 @@
 -- The two machines: the G92 pair that names each, and the punching range. (Document 01, "Moving and punching"; refusals 8 and 16.)
-use mathlib.Core.Bool.{Bool, true, false}
+use mathlib.Core.Bool.{Bool, true, false, cond, _&&_}
 use lib.IntN.{ℤ, pos, negsuc}
 use lib.Signed.{leZ}
 use Rattle.signed.specs.Signed.{eqZ}
@@ -9,14 +9,13 @@ use Rattle.aries.specs.declared.machine.Machine.the-variants.{Aries222, 
 use Rattle.aries.specs.declared.machine.Named.{Named}
 use Rattle.aries.specs.declared.machine.Named.the-variants.{As, Neither}
 use Rattle.aries.specs.declared.state.Frame.{Frame}
-use Rattle.aries.specs.Test.{both, pick}
 
 abbrev pub isPair : Point → ℤ → ℤ → Bool
-isPair p x y = both (eqZ (p .x) x) (eqZ (p .y) y)
+isPair p x y = eqZ (p .x) x && eqZ (p .y) y
 
 -- G92 X600. Y600. is the ARIES-222, G92 X1000. Y600. the ARIES-224
 unfoldable pub named : Point → Named
-named p = pick (isPair p (pos 60000) (pos 60000)) (As Aries222) (pick (isPair p (pos 100000) (pos 60000)) (As Aries224) Neither)
+named p = cond (isPair p (pos 60000) (pos 60000)) (As Aries222) (cond (isPair p (pos 100000) (pos 60000)) (As Aries224) Neither)
 
 -- X and Y from −1,020
 abbrev pub leastEnd : ℤ
@@ -34,8 +33,7 @@ rightEnd Aries224 = pos 101020
 -- a point is in the punching range; its ends belong to it
 unfoldable pub covers : Machine → Point → Bool
 covers m p =
-    both (both (leZ leastEnd (p .x)) (leZ (p .x) (rightEnd m)))
-    (both (leZ leastEnd (p .y)) (leZ (p .y) topEnd))
+    (leZ leastEnd (p .x) && leZ (p .x) (rightEnd m)) && (leZ leastEnd (p .y) && leZ (p .y) topEnd)
 
 -- 16: a point is in the range that holds in a frame
 abbrev pub inRange : Frame → Point → Bool

@@ -1,5 +1,5 @@
 -- Macros: the bodies that are stored, and running them. (Document 01, "Macros and layouts"; refusals 3 to 7, 10 and 11.)
-use mathlib.Core.Bool.{Bool, true, false, not}
+use mathlib.Core.Bool.{Bool, true, false, not, cond, _||_}
 use mathlib.Core.List.{List, [], _∷_}
 use mathlib.Core.Option.{Option, none, some}
 use Prim.Native.Nat.{ℕ, zero, suc, _+_, _-_, _≤_}
@@ -17,7 +17,6 @@ use Rattle.aries.specs.declared.macros.Found.the-variants as Found
 use Rattle.aries.specs.declared.state.Frame.{Frame}
 use Rattle.aries.specs.declared.state.Progress.{Progress}
 use Rattle.aries.specs.Outcome.{Out, done, refused, _>>=_, need, given, inLine}
-use Rattle.aries.specs.Test.{either, pick}
 use Rattle.aries.specs.Letters.{letterV}
 use Rattle.aries.specs.Text.{lines, startsWith}
 use Rattle.aries.specs.Blocks.{decode}
@@ -37,7 +36,7 @@ isStored m n = ltb 0 (getD (m .line) n 0)
 
 -- where the body of a macro lies, and the line of its start, if it is stored
 abbrev pub foundIn : Macros → ℕ → Found
-foundIn m n = pick (isStored m n) (Found.Body (getD (m .start) n 0) (getD (m .end) n 0) (getD (m .line) n 0)) Found.Nothing
+foundIn m n = cond (isStored m n) (Found.Body (getD (m .start) n 0) (getD (m .end) n 0) (getD (m .line) n 0)) Found.Nothing
 
 -- a macro's body, the part of the program text between its U line and its V line, and the number of its first line
 pub record Body : Type 0 where
@@ -108,11 +107,11 @@ isCounted l = not (startsWith letterV l)
 
 -- 3: another block may come
 abbrev pub mayCome : Judging → List ℕ → Progress → Bool
-mayCome j l g = either (not (isCounted l)) (room (j .blocks) (g .blocks))
+mayCome j l g = not (isCounted l) || room (j .blocks) (g .blocks)
 
 -- it counts, and its G90 or G91 holds
 abbrev pub begun : Bool → Measure → Progress → Progress
-begun counted m g = record { state = measuring (g .state) m; blocks = pick counted (g .blocks + 1) (g .blocks); hits = g .hits }
+begun counted m g = record { state = measuring (g .state) m; blocks = cond counted (g .blocks + 1) (g .blocks); hits = g .hits }
 
 -- the block of a line, and the progress as the block finds it
 pub record Begun : Type 0 where

@@ -1,5 +1,5 @@
 -- The punching state, positions and hits. (Document 01, "Moving and punching"; refusals 14 to 17.)
-use mathlib.Core.Bool.{Bool, true, false}
+use mathlib.Core.Bool.{Bool, true, false, cond}
 use mathlib.Core.List.{List, [], _∷_}
 use Prim.Native.Nat.{ℕ, _+_, _-_}
 use lib.Dec.{ltb}
@@ -20,7 +20,6 @@ use Rattle.aries.specs.declared.state.State.{State}
 use Rattle.aries.specs.declared.state.Frame.{Frame}
 use Rattle.aries.specs.declared.state.Progress.{Progress}
 use Rattle.aries.specs.Outcome.{Out, done, refused, _>>=_, need}
-use Rattle.aries.specs.Test.{pick}
 use Rattle.aries.specs.Machine.{covers, inRange}
 use Rattle.aries.specs.Hits.{Hit, Made, still}
 use Rattle.aries.specs.Judging.{Judging, room, judged, near}
@@ -80,7 +79,7 @@ choosing s t =
       waiting = s .waiting;
       incremental = s .incremental;
       nibble = s .nibble;
-      tool = pick (ltb 0 t) t (s .tool);
+      tool = cond (ltb 0 t) t (s .tool);
       memories = s .memories;
     }
 
@@ -93,7 +92,7 @@ remembering s n p =
       incremental = s .incremental;
       nibble = s .nibble;
       tool = s .tool;
-      memories = pick (ltb 0 n) (set (s .memories) (n - 1) (record { stored = Stored.Kept p })) (s .memories);
+      memories = cond (ltb 0 n) (set (s .memories) (n - 1) (record { stored = Stored.Kept p })) (s .memories);
     }
 
 -- G90 or G91 of a block holds for that block already, and on
@@ -131,7 +130,7 @@ withState g s = record { state = s; blocks = g .blocks; hits = g .hits }
 
 -- one axis: an omitted one stays; else it is measured from the origin or, under G91, from the current point
 abbrev pub axisTarget : Axis → Bool → ℤ → ℤ → ℤ
-axisTarget a incremental origin current = pick (a .written) (pick incremental current origin +ℤ a .value) current
+axisTarget a incremental origin current = cond (a .written) (cond incremental current origin +ℤ a .value) current
 
 -- the point that a block's X and Y name
 abbrev pub target : Frame → State → Axes → Point

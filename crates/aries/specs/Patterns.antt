@@ -1,5 +1,5 @@
 -- Patterns: where their hits lie, and pattern memory. (Document 01, "Patterns"; refusals 10 and 15.)
-use mathlib.Core.Bool.{Bool, true, false}
+use mathlib.Core.Bool.{Bool, true, false, cond, _&&_}
 use mathlib.Core.List.{List, [], _∷_}
 use Prim.Native.Nat.{ℕ, zero, suc, _+_, _-_, _*_}
 use lib.IntN.{ℤ, pos, negℤ, _+ℤ_, _-ℤ_, _*ℤ_}
@@ -19,7 +19,6 @@ use Rattle.aries.specs.declared.state.State.{State}
 use Rattle.aries.specs.declared.state.Frame.{Frame}
 use Rattle.aries.specs.declared.state.Progress.{Progress}
 use Rattle.aries.specs.Outcome.{Out, done, refused, _>>=_, need}
-use Rattle.aries.specs.Test.{both, pick}
 use Rattle.aries.specs.Hits.{Made, still, andThen, leaving}
 use Rattle.aries.specs.Judging.{Judging, judged, isNear}
 use Rattle.aries.specs.Lanes.{lane, along}
@@ -38,12 +37,12 @@ turned n k = nearest (36000 * k) n
 
 -- minus the turn where K is negative
 abbrev pub circleAngle : ℤ → Bool → ℕ → ℕ → ℤ
-circleAngle angle clockwise n k = pick clockwise (angle -ℤ pos (turned n k)) (angle +ℤ pos (turned n k))
+circleAngle angle clockwise n k = cond clockwise (angle -ℤ pos (turned n k)) (angle +ℤ pos (turned n k))
 
 -- place m of a grid, the start being place 0: row by row, or column by column
 abbrev pub gridOffset : Bool → Point → Steps → ℕ → Point
 gridOffset vertical pitch steps m =
-    pick vertical
+    cond vertical
     (pointAt (pos (lane (steps .y) m) *ℤ pitch .x) (pos (along (steps .y) m) *ℤ pitch .y))
     (pointAt (pos (along (steps .x) m) *ℤ pitch .x) (pos (lane (steps .x) m) *ℤ pitch .y))
 
@@ -67,7 +66,7 @@ unfoldable pub reaches : Pattern → Bool
 reaches (Line pitch angle count) = isNear (pos count *ℤ pitch)
 reaches (Arc radius angle step count) = true
 reaches (Circle radius angle clockwise count) = true
-reaches (Grid vertical pitch steps) = both (isNear (pos (steps .x) *ℤ pitch .x)) (isNear (pos (steps .y) *ℤ pitch .y))
+reaches (Grid vertical pitch steps) = isNear (pos (steps .x) *ℤ pitch .x) && isNear (pos (steps .y) *ℤ pitch .y)
 
 -- ---- Carrying a pattern out
 

@@ -1,9 +1,9 @@
 -- A place as the code computes it, as the point that it is.
+use mathlib.Core.Bool.{cond}
 use Rattle.aries.specs.declared.point.Point.{Point}
 use Rattle.aries.specs.declared.point.Place.{Place}
 use Rattle.aries.specs.declared.point.Located.{Located}
 use Rattle.aries.specs.declared.point.Located.the-variants.{At, TooFar}
-use Rattle.aries.specs.Test.{pick}
 use Rattle.aries.specs.Judging.{near}
 
 abbrev pub pointOf : Place → Point
@@ -11,4 +11,4 @@ pointOf p = record { x = p .x; y = p .y }
 
 -- what 15 makes of a point
 abbrev pub located : Point → Located
-located p = pick (near p) (At p) TooFar
+located p = cond (near p) (At p) TooFar

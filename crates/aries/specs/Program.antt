@@ -25,7 +25,7 @@ use Rattle.aries.specs.declared.setup.Stage.the-variants.{Fresh, Running
 use Rattle.aries.specs.declared.setup.Program.{Program}
 use Rattle.aries.specs.declared.state.Progress.{Progress}
 use Rattle.aries.specs.Outcome.{Out, done, refused, _>>=_, need}
-use Rattle.aries.specs.Test.{within, pick}
+use Rattle.aries.specs.Test.{within}
 use Rattle.aries.specs.Letters.{letterV}
 use Rattle.aries.specs.Text.{longest, strayLine, withoutSpaces, lines, startsWith}
 use Rattle.aries.specs.Hits.{Hit, cells, Made, still, andThen, leaving}

@@ -1,6 +1,6 @@
 -- What G92, G93 and G98 set up: the machine, the layout and the origin. (Document 01, "Moving and punching", "Macros and
 -- layouts"; refusals 8 and 15.)
-use mathlib.Core.Bool.{Bool, true, false}
+use mathlib.Core.Bool.{Bool, true, false, cond}
 use Prim.Native.Nat.{ℕ}
 use Rattle.aries.specs.declared.job.Job.{Job}
 use Rattle.aries.specs.declared.point.Point.{Point}
@@ -12,7 +12,6 @@ use Rattle.aries.specs.declared.setup.Sheet.the-variants.{Plain, LaidOut
 use Rattle.aries.specs.declared.setup.Setup.{Setup}
 use Rattle.aries.specs.declared.state.Frame.{Frame}
 use Rattle.aries.specs.Outcome.{Out, done, refused, _>>=_, need}
-use Rattle.aries.specs.Test.{pick}
 use Rattle.aries.specs.Judging.{Judging, judged, near}
 use Rattle.aries.specs.Moves.{pointAt, zeroPoint, _⊕_}
 
@@ -51,4 +50,4 @@ setOrigin j line sheet offset s = do
 
 -- G93 sets the offset of the axes it names, alike under G90 and G91; an axis not named keeps its offset.
 abbrev pub offsetBy : Axes → Point → Point
-offsetBy a before = pointAt (pick (a .x .written) (a .x .value) (before .x)) (pick (a .y .written) (a .y .value) (before .y))
+offsetBy a before = pointAt (cond (a .x .written) (a .x .value) (before .x)) (cond (a .y .written) (a .y .value) (before .y))

@@ -1,5 +1,5 @@
 -- The program text as bytes: which are allowed, lines, and spaces. (Document 01, "Text, words, units"; refusals 1 and 2.)
-use mathlib.Core.Bool.{Bool, true, false}
+use mathlib.Core.Bool.{Bool, true, false, _||_}
 use mathlib.Core.List.{List, [], _∷_}
 use mathlib.Core.Option.{Option, none, some}
 use Prim.Native.Nat.{ℕ, suc}
@@ -8,7 +8,7 @@ use Prim.Native.String.{String}
 use Prim.Native.String as S
 use lib.Dec.{eqb}
 use lib.ListN.{getD}
-use Rattle.aries.specs.Test.{either, within, among}
+use Rattle.aries.specs.Test.{within, among}
 
 -- the most bytes a text may have
 abbrev pub longest : ℕ
@@ -33,7 +33,7 @@ isDigit b = within 48 57 b
 
 -- a capital, a digit, a space, a line feed, plus, minus or point
 abbrev pub isAllowed : ℕ → Bool
-isAllowed b = either (isCapital b) (either (isDigit b) (among (space ∷ lineFeed ∷ 43 ∷ 45 ∷ 46 ∷ []) b))
+isAllowed b = isCapital b || (isDigit b || among (space ∷ lineFeed ∷ 43 ∷ 45 ∷ 46 ∷ []) b)
 
 -- the first byte of a line
 abbrev pub startsWith : ℕ → List ℕ → Bool

@@ -1,5 +1,5 @@
 -- Words: their form and their values, and the words of a block by letter. (Document 01, "Text, words, units"; refusal 4.)
-use mathlib.Core.Bool.{Bool, true, false, not}
+use mathlib.Core.Bool.{Bool, true, false, not, cond, _&&_, _||_}
 use mathlib.Core.List.{List, [], _∷_}
 use mathlib.Core.Option.{Option, none, some}
 use Prim.Native.Nat.{ℕ, zero, suc, _+_, _-_, _*_}
@@ -10,7 +10,7 @@ use Rattle.signed.specs.Signed.{withSign}
 use Rattle.aries.specs.declared.word.Word.{Word}
 use Rattle.aries.specs.declared.word.Words.{Words}
 use Rattle.aries.specs.Letters.{letterA, letterG, letterN, indexOf}
-use Rattle.aries.specs.Test.{both, either, among, pick}
+use Rattle.aries.specs.Test.{among}
 use Rattle.aries.specs.Text.{isCapital, isDigit}
 
 -- digits read: their value and how many they are
@@ -38,7 +38,7 @@ point = 46
 
 -- hundredths of a number with a point, from its digits before and after
 abbrev pub hundredths : Digits → Digits → ℕ
-hundredths whole decimals = whole .value * 100 + decimals .value * pick (eqb (decimals .count) 1) 10 1
+hundredths whole decimals = whole .value * 100 + decimals .value * cond (eqb (decimals .count) 1) 10 1
 
 -- a word that was read: its letter, the word itself, and how many bytes it takes
 pub record Read : Type 0 where
@@ -61,7 +61,7 @@ wholeWord bs front whole =
 -- a word with a point: 1 to 4 digits, the point, and 0 to 2 decimals
 abbrev pub pointWord : List ℕ → ℕ → Digits → Digits → Option Read
 pointWord bs front whole decimals =
-    pick (leb (whole .count) 4)
+    cond (leb (whole .count) 4)
     (some (record {
       letter = getD bs 0 0;
       word = wordOf (isSign (getD bs 1 0)) (eqb (getD bs 1 0) minus) true (hundredths whole decimals);
@@ -71,12 +71,12 @@ pointWord bs front whole decimals =
 
 -- the bytes before the digits: the letter, and the sign if there is one
 abbrev pub frontSize : List ℕ → ℕ
-frontSize bs = pick (isSign (getD bs 1 0)) 2 1
+frontSize bs = cond (isSign (getD bs 1 0)) 2 1
 
 abbrev pub wordFrom : List ℕ → ℕ → Digits → Option Read
 wordFrom bs front whole =
-    pick (both (isCapital (getD bs 0 0)) (leb 1 (whole .count)))
-    (pick (eqb (getD bs (front + whole .count) 0) point)
+    cond (isCapital (getD bs 0 0) && leb 1 (whole .count))
+    (cond (eqb (getD bs (front + whole .count) 0) point)
     (pointWord bs front whole (digits 2 0 0 (drop (front + whole .count + 1) bs)))
     (wholeWord bs front whole))
     none
@@ -112,14 +112,14 @@ has w letter = at w letter .written
 
 -- a number without sign or point
 abbrev pub isPlain : Word → Bool
-isPlain v = both (not (v .signed)) (not (v .pointed))
+isPlain v = not (v .signed) && not (v .pointed)
 
 -- the pattern codes
 abbrev pub isPatternCode : ℕ → Bool
 isPatternCode code = among (26 ∷ 28 ∷ 29 ∷ 36 ∷ 37 ∷ []) code
 
 abbrev pub isReadingCode : Word → Bool
-isReadingCode v = both (isPlain v) (among (90 ∷ 91 ∷ []) (natAbs (v .value)))
+isReadingCode v = isPlain v && among (90 ∷ 91 ∷ []) (natAbs (v .value))
 
 -- One of G90, G91 may stand in a block besides a code; a G with a sign or a point is unknown.
 abbrev pub withReading : Words → Word → Words
@@ -132,7 +132,7 @@ withReading w v =
       code = w .code;
       read = true;
       incremental = eqb (natAbs (v .value)) 91;
-      misplaced = either (w .misplaced) (w .read);
+      misplaced = w .misplaced || w .read;
     }
 
 abbrev pub withCode : Words → Word → Words
@@ -145,7 +145,7 @@ withCode w v =
       code = natAbs (v .value);
       read = w .read;
       incremental = w .incremental;
-      misplaced = either (w .misplaced) (either (w .coded) (not (isPlain v)));
+      misplaced = w .misplaced || (w .coded || not (isPlain v));
     }
 
 -- N stands first in its block.
@@ -159,7 +159,7 @@ withNumber w v =
       code = w .code;
       read = w .read;
       incremental = w .incremental;
-      misplaced = either (w .misplaced) (w .begun);
+      misplaced = w .misplaced || w .begun;
     }
 
 -- No other letter stands twice, and A stands before the pattern's G.
@@ -174,16 +174,15 @@ withLetter w letter v =
       read = w .read;
       incremental = w .incremental;
       misplaced =
-          either (w .misplaced)
-          (either (has w letter) (both (eqb letter letterA) (both (w .coded) (isPatternCode (w .code)))));
+          w .misplaced || (has w letter || (eqb letter letterA && (w .coded && isPatternCode (w .code))));
     }
 
 -- the words of a block with one more
 unfoldable pub added : Words → ℕ → Word → Words
 added w letter v =
-    pick (eqb letter letterG)
-    (pick (isReadingCode v) (withReading w v) (withCode w v))
-    (pick (eqb letter letterN) (withNumber w v) (withLetter w letter v))
+    cond (eqb letter letterG)
+    (cond (isReadingCode v) (withReading w v) (withCode w v))
+    (cond (eqb letter letterN) (withNumber w v) (withLetter w letter v))
 
 -- The words of a line after those that were read before, none where one has not the form. A line has no more words
 -- than bytes, which is what the first number counts.

@@ -1,7 +1,7 @@
 -- Laws of the ranges: numbers of clean words that pass them are small, absent ones too.
 -- Assumes nothing.
 use mathlib.Core.Path.{_≡_, refl, sym, ap, subst}
-use mathlib.Core.Bool.{Bool, true, false, not}
+use mathlib.Core.Bool.{Bool, true, false, not, _&&_, _||_}
 use mathlib.Core.List.{List, [], _∷_}
 use Prim.Native.Nat.{ℕ, _≤_}
 use native.Mathlib.Nat.{le-trans}
@@ -9,11 +9,11 @@ use native.Mathlib.Omega.{arith}
 use lib.Dec.{T, eqb, leb}
 use lib.IntN.{natAbs}
 use borrow.Author.Tests.{eqb-true, leb-true}
-use Rattle.signed.proofs.Tests.{both-left, both-right}
+use Rattle.signed.proofs.Tests.{and-left, and-right}
 use Rattle.aries.specs.declared.word.Word.{Word}
 use Rattle.aries.specs.declared.word.Words.{Words}
 use Rattle.aries.specs.declared.block.Kind.{Kind}
-use Rattle.aries.specs.Test.{both, either, within, every}
+use Rattle.aries.specs.Test.{within, every}
 use Rattle.aries.specs.Words.{at, isPlain}
 use Rattle.aries.specs.Blocks.{Range, aboveZero, notNegative, whole, signedWhole, numberFits, rangesOf, commonRanges, isRanged, count}
 use Rattle.blocks.specs.Clean.{Clean, CleanWord}
@@ -22,15 +22,15 @@ use Rattle.blocks.specs.Decoding.{passes}
 -- ---- One word
 
 -- a number that is absent, or within bounds by a test
-absent-or : (v : Word) (t : Bool) (least most : ℕ) → CleanWord v → either (not (v .written)) (both t (within least most (natAbs (v .value)))) ≡ true → natAbs (v .value) ≤ most
+absent-or : (v : Word) (t : Bool) (least most : ℕ) → CleanWord v → (not (v .written) || (t && within least most (natAbs (v .value)))) ≡ true → natAbs (v .value) ≤ most
 absent-or v t least most clean h = go (v .written) refl
   where
     go : (written : Bool) → v .written ≡ written → natAbs (v .value) ≤ most
     go false e = subst (λ (n : ℕ). n ≤ most) (sym (ap natAbs (clean .absent e))) (omega arith)
     go true e =
-        let range : both t (within least most (natAbs (v .value))) ≡ true = subst (λ (w : Bool). either (not w) (both t (within least most (natAbs (v .value)))) ≡ true) e h in
-        let inside : within least most (natAbs (v .value)) ≡ true = both-right t (within least most (natAbs (v .value))) range in
-        leb-true (natAbs (v .value)) most (both-right (leb least (natAbs (v .value))) (leb (natAbs (v .value)) most) inside)
+        let range : (t && within least most (natAbs (v .value))) ≡ true = subst (λ (w : Bool). (not w || (t && within least most (natAbs (v .value)))) ≡ true) e h in
+        let inside : within least most (natAbs (v .value)) ≡ true = and-right t (within least most (natAbs (v .value))) range in
+        leb-true (natAbs (v .value)) most (and-right (leb least (natAbs (v .value))) (leb (natAbs (v .value)) most) inside)
 
 -- whether a range holds whole numbers of at most so much
 abbrev upTo : ℕ → Range → Bool
@@ -55,29 +55,29 @@ size-small letter clean e f = rw (f, e) (clean .each letter .small)
 -- whether a table holds the number of a letter to at most so much
 abbrev pub limits : List (ℕ × Range) → ℕ → ℕ → Bool
 limits [] letter cap = false
-limits (e ∷ es) letter cap = either (both (eqb (e .0) letter) (upTo cap (e .1))) (limits es letter cap)
+limits (e ∷ es) letter cap = (eqb (e .0) letter && upTo cap (e .1)) || limits es letter cap
 
 -- where all numbers of the table fit, that one does
 limited : (w : Words) (es : List (ℕ × Range)) (letter cap : ℕ) → Clean w → limits es letter cap ≡ true → every (numberFits w) es ≡ true → count w letter ≤ cap
 limited w [] letter cap clean l h = absurd (subst T (sym l) tt)
-limited w (e ∷ es) letter cap clean l h = go (both (eqb (e .0) letter) (upTo cap (e .1))) refl l (λ m. limited w es letter cap clean m (both-right (numberFits w e) (every (numberFits w) es) h))
+limited w (e ∷ es) letter cap clean l h = go (eqb (e .0) letter && upTo cap (e .1)) refl l (λ m. limited w es letter cap clean m (and-right (numberFits w e) (every (numberFits w) es) h))
   where
     go :
-        (here : Bool) → both (eqb (e .0) letter) (upTo cap (e .1)) ≡ here → either here (limits es letter cap) ≡ true
+        (here : Bool) → (eqb (e .0) letter && upTo cap (e .1)) ≡ here → (here || limits es letter cap) ≡ true
         → (limits es letter cap ≡ true → count w letter ≤ cap)
         → count w letter ≤ cap
     go true b m later =
-        let first = small-enough (e .1) (at w (e .0)) cap (clean .each (e .0)) (both-right (eqb (e .0) letter) (upTo cap (e .1)) b) (both-left (numberFits w e) (every (numberFits w) es) h) in
-        subst (λ (n : ℕ). count w n ≤ cap) (eqb-true (e .0) letter (both-left (eqb (e .0) letter) (upTo cap (e .1)) b)) first
+        let first = small-enough (e .1) (at w (e .0)) cap (clean .each (e .0)) (and-right (eqb (e .0) letter) (upTo cap (e .1)) b) (and-left (numberFits w e) (every (numberFits w) es) h) in
+        subst (λ (n : ℕ). count w n ≤ cap) (eqb-true (e .0) letter (and-left (eqb (e .0) letter) (upTo cap (e .1)) b)) first
     go false b m later = later m
 
 module _ (w : Words) (k : Kind) (clean : Clean w) (ranged : isRanged w k ≡ true) where
   -- a number that is limited by the table of the kind that it is
   pub own-limit : {l : Kind} → k ≡ l → (letter cap : ℕ) → limits (rangesOf l) letter cap ≡ true → count w letter ≤ cap
   unfolding isRanged
-  own-limit e letter cap l = limited w (rangesOf k) letter cap clean (rw e l) (both-left (every (numberFits w) (rangesOf k)) (every (numberFits w) commonRanges) ranged)
+  own-limit e letter cap l = limited w (rangesOf k) letter cap clean (rw e l) (and-left (every (numberFits w) (rangesOf k)) (every (numberFits w) commonRanges) ranged)
 
   -- one that is limited wherever it stands
   pub common-limit : (letter cap : ℕ) → limits commonRanges letter cap ≡ true → count w letter ≤ cap
   unfolding isRanged
-  common-limit letter cap l = limited w commonRanges letter cap clean l (both-right (every (numberFits w) (rangesOf k)) (every (numberFits w) commonRanges) ranged)
+  common-limit letter cap l = limited w commonRanges letter cap clean l (and-right (every (numberFits w) (rangesOf k)) (every (numberFits w) commonRanges) ranged)

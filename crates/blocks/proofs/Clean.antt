@@ -1,7 +1,7 @@
 -- Laws of clean words: a block without words is clean, and so is one with a clean word more.
 -- Assumes nothing.
 use mathlib.Core.Path.{_≡_, refl, subst}
-use mathlib.Core.Bool.{Bool, true, false}
+use mathlib.Core.Bool.{Bool, true, false, cond}
 use mathlib.Core.List.{List, [], _∷_}
 use Prim.Native.Nat.{ℕ, zero, suc, _+_, _-_, _≤_}
 use native.Mathlib.Omega.{arith}
@@ -11,7 +11,6 @@ use lib.ListN.{getD, set, replicate}
 use Rattle.aries.specs.declared.word.Word.{Word}
 use Rattle.aries.specs.declared.word.Words.{Words}
 use Rattle.aries.specs.Letters.{letterG, letterN, indexOf}
-use Rattle.aries.specs.Test.{pick}
 use Rattle.aries.specs.Words.{noWord, noWords, withReading, withCode, withNumber, withLetter, isReadingCode, added}
 use Rattle.blocks.specs.Clean.{CleanWord, Clean}
 
@@ -55,16 +54,16 @@ module _ (w : Words) (clean : Clean w) where
   set-clean j v c i = each-set (w .letters) j v c by-index i
 
   -- one of two
-  pick-clean : (t : Bool) (x y : Words) → Clean x → Clean y → Clean (pick t x y)
-  pick-clean true x y cx cy = cx
-  pick-clean false x y cx cy = cy
+  cond-clean : (t : Bool) (x y : Words) → Clean x → Clean y → Clean (cond t x y)
+  cond-clean true x y cx cy = cx
+  cond-clean false x y cx cy = cy
 
   -- with a word more
   pub added-clean : (letter : ℕ) (v : Word) → CleanWord v → Clean (added w letter v)
   unfolding added
   added-clean letter v c =
-      pick-clean (eqb letter letterG) (pick (isReadingCode v) (withReading w v) (withCode w v)) (pick (eqb letter letterN) (withNumber w v) (withLetter w letter v))
-      (pick-clean (isReadingCode v) (withReading w v) (withCode w v) (record { each = clean .each }) (record { each = clean .each }))
-      (pick-clean (eqb letter letterN) (withNumber w v) (withLetter w letter v)
+      cond-clean (eqb letter letterG) (cond (isReadingCode v) (withReading w v) (withCode w v)) (cond (eqb letter letterN) (withNumber w v) (withLetter w letter v))
+      (cond-clean (isReadingCode v) (withReading w v) (withCode w v) (record { each = clean .each }) (record { each = clean .each }))
+      (cond-clean (eqb letter letterN) (withNumber w v) (withLetter w letter v)
       (record { each = λ l. set-clean (indexOf letterN) v c (indexOf l) })
       (record { each = λ l. set-clean (indexOf letter) v c (indexOf l) }))

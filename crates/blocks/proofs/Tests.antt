@@ -1,39 +1,26 @@
 -- Laws of tests put together.
 -- Assumes nothing.
 use mathlib.Core.Path.{_≡_, refl, sym, _∙_}
-use mathlib.Core.Bool.{Bool, true, false}
+use mathlib.Core.Bool.{Bool, true, false, _&&_, _||_, and-assoc, and-true, or-assoc, or-false}
 use mathlib.Core.List.{List, [], _∷_}
 use Prim.Native.Nat.{ℕ}
 use lib.Dec.{eqb}
-use Rattle.signed.proofs.Tests.{both-idr}
-use Rattle.aries.specs.Test.{both, either, among, every}
-
-both-assoc : (a b c : Bool) → both (both a b) c ≡ both a (both b c)
-both-assoc true b c = refl
-both-assoc false b c = refl
-
-either-assoc : (a b c : Bool) → either (either a b) c ≡ either a (either b c)
-either-assoc true b c = refl
-either-assoc false b c = refl
-
-either-idr : (a : Bool) → either a false ≡ a
-either-idr true = refl
-either-idr false = refl
+use Rattle.aries.specs.Test.{among, every}
 
 -- ---- Tests made one after the other, as code makes them, against a list of them
 
 -- all pass
 abbrev passAfter : {A : Type 0} → (A → Bool) → Bool → List A → Bool
 passAfter f b [] = b
-passAfter f b (a ∷ rest) = passAfter f (both b (f a)) rest
+passAfter f b (a ∷ rest) = passAfter f (b && f a) rest
 
 abbrev passAll : {A : Type 0} → (A → Bool) → List A → Bool
 passAll f [] = true
 passAll f (a ∷ rest) = passAfter f (f a) rest
 
-pass-after : {A : Type 0} (f : A → Bool) (b : Bool) (rest : List A) → passAfter f b rest ≡ both b (every f rest)
-pass-after f b [] = sym (both-idr b)
-pass-after f b (a ∷ rest) = pass-after f (both b (f a)) rest ∙ both-assoc b (f a) (every f rest)
+pass-after : {A : Type 0} (f : A → Bool) (b : Bool) (rest : List A) → passAfter f b rest ≡ (b && every f rest)
+pass-after f b [] = sym (and-true b)
+pass-after f b (a ∷ rest) = pass-after f (b && f a) rest ∙ and-assoc b (f a) (every f rest)
 
 pub pass-all : {A : Type 0} (f : A → Bool) (rest : List A) → passAll f rest ≡ every f rest
 pass-all f [] = refl
@@ -42,12 +29,12 @@ pass-all f (a ∷ rest) = pass-after f (f a) rest
 -- one does: a number is among those of a list
 abbrev isAfter : ℕ → Bool → List ℕ → Bool
 isAfter n b [] = b
-isAfter n b (a ∷ rest) = isAfter n (either b (eqb n a)) rest
+isAfter n b (a ∷ rest) = isAfter n (b || eqb n a) rest
 
-pub is-after : (n : ℕ) (b : Bool) (rest : List ℕ) → isAfter n b rest ≡ either b (among rest n)
-is-after n b [] = sym (either-idr b)
-is-after n b (a ∷ rest) = is-after n (either b (eqb n a)) rest ∙ either-assoc b (eqb n a) (among rest n)
+pub is-after : (n : ℕ) (b : Bool) (rest : List ℕ) → isAfter n b rest ≡ (b || among rest n)
+is-after n b [] = sym (or-false b)
+is-after n b (a ∷ rest) = is-after n (b || eqb n a) rest ∙ or-assoc b (eqb n a) (among rest n)
 
 -- a first test, and three more with what they come to
-pub after-one : (a : Bool) {b c d q r s : Bool} → b ≡ q → c ≡ r → d ≡ s → both (both (both a b) c) d ≡ both a (both q (both r s))
-after-one a {b} {c} {d} {q} {r} {s} f g h = simp (f, g, h, both-assoc)
+pub after-one : (a : Bool) {b c d q r s : Bool} → b ≡ q → c ≡ r → d ≡ s → (((a && b) && c) && d) ≡ (a && (q && (r && s)))
+after-one a {b} {c} {d} {q} {r} {s} f g h = simp (f, g, h, and-assoc)

@@ -1,10 +1,11 @@
 ghost use mathlib.Core.Path.{_≡_};
+ghost use mathlib.Core.Bool.{cond, _&&_};
 ghost use mathlib.Core.List.{[], _∷_};
 ghost use Prim.Native.Nat.{_+_, _≤_};
 ghost use lib.Dec.{eqb};
 ghost use lib.IntN.{natAbs};
 ghost use Rattle.aries.specs.Blocks.{neither, form, formOf, present, lettersFit, besideFits, kindFits, isListed};
-ghost use Rattle.aries.specs.Test.{both, among, pick};
+ghost use Rattle.aries.specs.Test.{among};
 ghost use Rattle.aries.specs.Words.{isPlain};
 ghost use Rattle.words.specs.Keeping.{wordsFrom, wordsOf, wordsWith};
 use crate::lookup::has;
@@ -48,14 +49,14 @@ fn three(forms: &[u8; 26], numbers: &[i32; 26], a: u8, b: u8, c: u8) -> usize
 // Whether all n letters that must stand in a block do, and no other words but those that may.
 fn all_fit(others: usize, n: usize, must: usize, may: usize) -> bool
     requires { ⌜ (must ≤ 26) × (may ≤ 26) ⌝ }
-    ensures { λ r. ⌜ r ≡ both (eqb must n) (eqb others (must + may)) ⌝ }
+    ensures { λ r. ⌜ r ≡ (eqb must n && eqb others (must + may)) ⌝ }
 {
     (must == n) & (others == must + may)
 }
 
 // Whether X or Y stands in a block, and no other words but, with tool, T.
 fn axes_fit(forms: &[u8; 26], numbers: &[i32; 26], tally: Tally, tool: bool) -> bool
-    ensures { λ r. ⌜ r ≡ lettersFit (wordsWith (now (forms .entry)) (now (numbers .entry)) tally) (form "" "XY" (pick tool "T" "") neither) ⌝ }
+    ensures { λ r. ⌜ r ≡ lettersFit (wordsWith (now (forms .entry)) (now (numbers .entry)) tally) (form "" "XY" (cond tool "T" "") neither) ⌝ }
 {
     let axes = two(forms, numbers, b'X', b'Y');
     let t = one(forms, numbers, b'T');
@@ -115,7 +116,7 @@ fn beside_fits(tally: Tally, kind: Kind) -> bool
 
 // Whether an M word is one of the M codes, which go by their number and have no sign or point.
 fn is_m_code(v: Word) -> bool
-    ensures { λ r. ⌜ r ≡ both (isPlain v) (among (0 ∷ 1 ∷ 8 ∷ 9 ∷ 12 ∷ 13 ∷ []) (natAbs (v .value))) ⌝ }
+    ensures { λ r. ⌜ r ≡ (isPlain v && among (0 ∷ 1 ∷ 8 ∷ 9 ∷ 12 ∷ 13 ∷ []) (natAbs (v .value))) ⌝ }
 {
     let n = size_of(v);
     is_plain(v) & ((n == 0) | (n == 1) | (n == 8) | (n == 9) | (n == 12) | (n == 13))

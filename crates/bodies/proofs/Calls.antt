@@ -1,6 +1,6 @@
 -- Laws of calls: what is found of a macro, the body that is cut out of the text, and what the call comes to.
 use mathlib.Core.Path.{_≡_, refl, sym, ap, _∙_}
-use mathlib.Core.Bool.{Bool, true, false}
+use mathlib.Core.Bool.{Bool, true, false, cond}
 use mathlib.Core.List.{List, []}
 use mathlib.Core.Option.{Option, none, some}
 use Prim.Native.Nat.{ℕ, zero, suc, _+_, _-_, _<_, _≤_}
@@ -16,7 +16,6 @@ use Rattle.aries.specs.declared.state.Frame.{Frame}
 use Rattle.aries.specs.declared.state.Progress.{Progress}
 use Rattle.aries.specs.Outcome.{refused}
 use Rattle.aries.specs.Judging.{Judging}
-use Rattle.aries.specs.Test.{pick}
 use Rattle.aries.specs.Text.{lines}
 use Rattle.aries.specs.Macros.{Body, part, Bodies, bodyAt, bodiesOf, foundIn, Calls, runLines, call, runBody}
 use Rattle.bodies.specs.declared.Opening.{Opening}
@@ -38,12 +37,12 @@ module _ (text : List ℕ) (m : Macros) (n : ℕ) where
 
 -- its ends, clipped to the text
 abbrev pub clipped : ℕ → ℕ → ℕ
-clipped place limit = pick (ltb limit place) limit place
+clipped place limit = cond (ltb limit place) limit place
 
 pub clipped-within : (place limit : ℕ) → (clipped place limit ≤ limit) × (clipped place limit ≤ place)
 clipped-within place limit = go (ltb limit place) refl
   where
-    go : (b : Bool) → ltb limit place ≡ b → (pick b limit place ≤ limit) × (pick b limit place ≤ place)
+    go : (b : Bool) → ltb limit place ≡ b → (cond b limit place ≤ limit) × (cond b limit place ≤ place)
     go true e = (omega arith, omega (arith, ltb-true limit place e))
     go false e = (omega (arith, ltb-false limit place e), omega arith)
 
@@ -52,7 +51,7 @@ module _ (t : List ℕ) (start end : ℕ) where
   clipped-end : take (clipped end (length t) - start) (drop start t) ≡ take (end - start) (drop start t)
   clipped-end = go (ltb (length t) end) refl
     where
-      go : (b : Bool) → ltb (length t) end ≡ b → take (pick b (length t) end - start) (drop start t) ≡ take (end - start) (drop start t)
+      go : (b : Bool) → ltb (length t) end ≡ b → take (cond b (length t) end - start) (drop start t) ≡ take (end - start) (drop start t)
       go false e = refl
       go true e =
           let i = ltb-true (length t) end e in
@@ -65,7 +64,7 @@ module _ (t : List ℕ) (start end : ℕ) where
     where
       go :
           (b : Bool) → ltb (clipped end (length t)) start ≡ b
-          → take (clipped end (length t) - pick b (clipped end (length t)) start) (drop (pick b (clipped end (length t)) start) t) ≡ take (end - start) (drop start t)
+          → take (clipped end (length t) - cond b (clipped end (length t)) start) (drop (cond b (clipped end (length t)) start) t) ≡ take (end - start) (drop start t)
       go false e = clipped-end
       go true e =
           let i = ltb-true (clipped end (length t)) start e in

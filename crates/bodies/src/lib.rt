@@ -9,11 +9,11 @@ use aries::state::Status;
 use stretches::Stop;
 use stretches::run_stretch;
 ghost use mathlib.Core.Path.{_≡_};
+ghost use mathlib.Core.Bool.{cond};
 ghost use lib.Dec.{ltb};
 ghost use lib.ListN.{drop};
 ghost use Rattle.aries.specs.Macros.{bodiesOf, call, runLines};
 ghost use Rattle.aries.specs.Runs.{lent, Carried};
-ghost use Rattle.aries.specs.Test.{pick};
 ghost use Rattle.aries.specs.Text.{lines};
 ghost use Rattle.stretches.specs.Stretches.{LinesFit};
 ghost use Rattle.bodies.specs.Opening.{Opens};
@@ -44,7 +44,7 @@ pub fn first_block(body: &[u8], first: u16) -> Opening
 
 // A place, or the limit where it lies past that.
 pub fn clip(place: usize, limit: usize) -> usize
-    ensures { λ r. ⌜ r ≡ pick (ltb limit place) limit place ⌝ }
+    ensures { λ r. ⌜ r ≡ cond (ltb limit place) limit place ⌝ }
 {
     if limit < place { limit } else { place }
 }

@@ -13,7 +13,6 @@ use Rattle.aries.specs.declared.block.Kind.{Kind}
 use Rattle.aries.specs.declared.block.Measure.{Measure}
 use Rattle.aries.specs.declared.word.Words.{Words}
 use Rattle.aries.specs.Outcome.{Checked, passes, fails}
-use Rattle.aries.specs.Test.{pick}
 use Rattle.aries.specs.Words.{words}
 use Rattle.aries.specs.Blocks.{kindOf, isListed, isRanged, blockOf, measureOf, instructionOf, decodeWords, decoded, decode}
 use Rattle.words.specs.declared.Tally.{Tally}

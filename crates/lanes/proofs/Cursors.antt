@@ -1,5 +1,6 @@
 -- Laws of cursors: places counted by quotient and rest.
 use mathlib.Core.Path.{_≡_, sym, ap, ap₂, _∙_}
+use mathlib.Core.Bool.{cond}
 use Prim.Native.Nat.{ℕ, suc, _+_, _-_, _*_, _/_, _%_, _≤_, _<_}
 use native.Mathlib.Nat.{div-add-mod', div-eq-of-lt, div-le-self, div-lt-iff-lt-mul, mod-eq-of-lt, mod-lt, mul-add-div-right, mul-add-mod-self-right, zero-div, zero-mod}
 use native.Mathlib.Omega.{arith}
@@ -7,7 +8,6 @@ use lib.Dec.{eqb}
 use Rattle.lanes.specs.declared.Cursor.{Cursor}
 use Rattle.lanes.specs.Cursors.{cursorAt, passed}
 use Rattle.aries.specs.Lanes.{lane, along}
-use Rattle.aries.specs.Test.{pick}
 
 abbrev cursor : ℕ → ℕ → Cursor
 cursor q r = record { lane = q; rest = r }
@@ -55,9 +55,9 @@ pub lane-passed : (last : ℕ) (c : Cursor) → c .rest ≤ last → lane last (
 lane-passed last c h = ap (λ (d : Cursor). d .lane) (at-passed last c h)
 
 -- how far along its lane a cursor's place lies
-pub along-passed : (last : ℕ) (c : Cursor) → c .rest ≤ last → along last (passed last c) ≡ pick (eqb (c .lane % 2) 0) (c .rest) (last - c .rest)
+pub along-passed : (last : ℕ) (c : Cursor) → c .rest ≤ last → along last (passed last c) ≡ cond (eqb (c .lane % 2) 0) (c .rest) (last - c .rest)
 along-passed last c h =
-    ap (λ (d : Cursor). pick (eqb (d .lane % 2) 0) (d .rest) (last - d .rest)) (at-passed last c h)
+    ap (λ (d : Cursor). cond (eqb (d .lane % 2) 0) (d .rest) (last - d .rest)) (at-passed last c h)
 
 -- a rest is within its lane
 pub rest-within : (last m : ℕ) → m % suc last ≤ last

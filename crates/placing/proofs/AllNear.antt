@@ -1,20 +1,19 @@
 -- Laws of `allNear`: it holds exactly where every place of the layout is near.
 use mathlib.Core.Path.{_≡_, refl, sym, ap, ap₂, _∙_}
-use mathlib.Core.Bool.{Bool, true, false, cond}
+use mathlib.Core.Bool.{Bool, true, false, cond, _&&_}
 use Prim.Native.Nat.{ℕ, suc, _+_, _-_, _*_, _≤_, _<_}
 use native.Mathlib.Nat.{mul-le-mul, le-refl}
 use native.Mathlib.Omega.{arith}
 use borrow.Author.Tests.{le-leb, ltb-true, ltb-false}
 use lib.Dec.{ltb}
 use lib.IntN.{ℤ, pos, negsuc, natAbs, subℕ, _+ℤ_}
-use Rattle.signed.proofs.Tests.{both-left, both-right, both-true}
+use Rattle.signed.proofs.Tests.{and-left, and-right, and-intro}
 use Rattle.aries.specs.declared.block.Copies.{Copies}
 use Rattle.aries.specs.declared.block.Layout.{Layout}
 use Rattle.aries.specs.declared.point.Point.{Point}
 use Rattle.aries.specs.Judging.{isNear, near, farthest}
 use Rattle.aries.specs.Layouts.{copyCount, columnOf, rowOf, fromRight, fromTop, facing, placeAt, copyPlace}
 use Rattle.aries.specs.Moves.{pointAt, _⊕_}
-use Rattle.aries.specs.Test.{both}
 use Rattle.aries.proofs.CopyPlaces.{column-bound, row-bound, copyAt}
 use Rattle.aries.proofs.Judging.{near-x, near-y}
 use Rattle.placing.specs.Places.{cell, allNear}
@@ -55,9 +54,9 @@ module _ (o : Point) (l : Layout) (k : Copies) where
   all-near m h e =
       let low = cell o l 0 0 in
       let high = cell o l (l .steps .x) (l .steps .y) in
-      let a = both-left (near low) (near high) e in
-      let b = both-right (near low) (near high) e in
-      both-true _ _
+      let a = and-left (near low) (near high) e in
+      let b = and-right (near low) (near high) e in
+      and-intro _ _
       (coordinate (o .x) (fromRight (k .corner)) (l .steps .x) _ (l .pitch .x) (column-bound (k .vertical) l m h) (near-x low a) (near-x high b))
       (coordinate (o .y) (fromTop (k .corner)) (l .steps .y) _ (l .pitch .y) (row-bound (k .vertical) l m h) (near-y low a) (near-y high b))
 
@@ -89,6 +88,6 @@ module _ (o : Point) (l : Layout) (k : Copies) where
       far : {i j : ℕ} → CopyOf i j → near (cell o l i j) ≡ false → (m : ℕ) × (m < copyCount l) × (near (copyPlace o l k m) ≡ false)
       far v f = (v .number, v .bound, ap near (v .place) ∙ f)
 
-      go : (t : Bool) → near (cell o l 0 0) ≡ t → both t (near (cell o l (l .steps .x) (l .steps .y))) ≡ false → (m : ℕ) × (m < copyCount l) × (near (copyPlace o l k m) ≡ false)
+      go : (t : Bool) → near (cell o l 0 0) ≡ t → (t && near (cell o l (l .steps .x) (l .steps .y))) ≡ false → (m : ℕ) × (m < copyCount l) × (near (copyPlace o l k m) ≡ false)
       go false p q = far (copy-of 0 0 (omega arith) (omega arith)) p
       go true p q = far (copy-of (l .steps .x) (l .steps .y) (omega arith) (omega arith)) q

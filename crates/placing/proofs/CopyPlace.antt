@@ -1,6 +1,6 @@
 -- Laws of `copyPlace`: the places of a layout by cursors, and how many they are.
 use mathlib.Core.Path.{_≡_, refl, sym, ap, ap₂, _∙_}
-use mathlib.Core.Bool.{Bool, true, false}
+use mathlib.Core.Bool.{Bool, true, false, cond}
 use Prim.Native.Nat.{ℕ, suc, _+_, _*_, _≤_, _<_}
 use native.Mathlib.Nat.{mul-le-mul}
 use native.Mathlib.Omega.{arith}
@@ -9,7 +9,6 @@ use Rattle.aries.specs.declared.block.Layout.{Layout}
 use Rattle.aries.specs.declared.point.Point.{Point}
 use Rattle.aries.specs.Lanes.{lane, along}
 use Rattle.aries.specs.Layouts.{copyCount, placeAt, copyPlace}
-use Rattle.aries.specs.Test.{pick}
 use Rattle.aries.proofs.Lanes.{lane-bound}
 use Rattle.lanes.specs.declared.Cursor.{Cursor}
 use Rattle.lanes.specs.Cursors.{cursorAt, passed}
@@ -30,7 +29,7 @@ module _ (l : Layout) (c : Copies) where
   pub count-lanes : copyCount l ≡ suc (laneEnd l c) * suc (lastLane l c)
   count-lanes = go (c .vertical)
     where
-      go : (v : Bool) → copyCount l ≡ suc (pick v (l .steps .y) (l .steps .x)) * suc (pick v (l .steps .x) (l .steps .y))
+      go : (v : Bool) → copyCount l ≡ suc (cond v (l .steps .y) (l .steps .x)) * suc (cond v (l .steps .x) (l .steps .y))
       go true = omega arith
       go false = refl
 
@@ -38,7 +37,7 @@ module _ (l : Layout) (c : Copies) where
   pub lane-few : l .steps .x ≤ 65535 → l .steps .y ≤ 65535 → lastLane l c ≤ 65535
   lane-few h k = go (c .vertical)
     where
-      go : (v : Bool) → pick v (l .steps .x) (l .steps .y) ≤ 65535
+      go : (v : Bool) → cond v (l .steps .x) (l .steps .y) ≤ 65535
       go true = h
       go false = k
 

@@ -1,6 +1,6 @@
 -- Laws of a hit: `punch` by what is judged of it, and what has been carried out with it.
 use mathlib.Core.Path.{_≡_, refl, sym, ap, _∙_}
-use mathlib.Core.Bool.{Bool, true, false}
+use mathlib.Core.Bool.{Bool, true, false, cond}
 use Prim.Native.Nat.{ℕ, _<_}
 use native.Mathlib.Omega.{arith}
 use lib.Dec.{ltb}
@@ -12,7 +12,6 @@ use Rattle.aries.specs.declared.state.Status.the-variants as Status
 use Rattle.press.specs.declared.hits.Judged.{Judged}
 use Rattle.press.specs.declared.hits.Judged.the-variants.{Made, Refused}
 use Rattle.aries.specs.Outcome.{Out, done, refused, _>>=_, need}
-use Rattle.aries.specs.Test.{pick}
 use Rattle.aries.specs.Judging.{limits, near}
 use Rattle.aries.specs.Machine.{inRange}
 use Rattle.aries.specs.Hits as Hits
@@ -25,7 +24,7 @@ use Rattle.press.specs.Hits.{judgedHit, listAfter}
 
 -- what is judged by the four tests
 abbrev chosen : Point → Bool → Bool → Bool → Bool → Judged
-chosen p t n c r = pick t (pick n (pick c (pick r (Made p) (Refused 17)) (Refused 16)) (Refused 15)) (Refused 14)
+chosen p t n c r = cond t (cond n (cond c (cond r (Made p) (Refused 17)) (Refused 16)) (Refused 15)) (Refused 14)
 
 -- a hit that is made has a place in the list
 pub hit-fits : (f : Frame) (p : Point) (tool hits : ℕ) (q : Point) → Made q ≡ judgedHit f p tool hits → hits < f .job .places

@@ -1,6 +1,6 @@
 -- A hit by what it depends on alone: what is judged of it, and the lent list afterwards. `punch` of the definitions is the
 -- same with a whole progress (proofs/Punch.antt).
-use mathlib.Core.Bool.{Bool}
+use mathlib.Core.Bool.{Bool, cond}
 use mathlib.Core.Option.{some}
 use Prim.Native.Nat.{ℕ}
 use lib.Dec.{ltb}
@@ -8,7 +8,6 @@ use Rattle.aries.specs.declared.point.Point.{Point}
 use Rattle.aries.specs.declared.state.Frame.{Frame}
 use Rattle.press.specs.declared.hits.Judged.{Judged}
 use Rattle.press.specs.declared.hits.Judged.the-variants.{Made, Refused}
-use Rattle.aries.specs.Test.{pick}
 use Rattle.aries.specs.Judging.{room, near}
 use Rattle.aries.specs.Machine.{covers, inRange}
 use Rattle.aries.specs.Runs.{Lent, put}
@@ -17,9 +16,9 @@ use Rattle.aries.specs.Runs.{Lent, put}
 unfoldable pub judgedHit : Frame → Point → ℕ → ℕ → Judged
 unfolding near covers
 judgedHit f p tool hits =
-    pick (ltb 0 tool)
-    (pick (near p)
-    (pick (inRange f p) (pick (room (some (f .job .places)) hits) (Made p) (Refused 17)) (Refused 16))
+    cond (ltb 0 tool)
+    (cond (near p)
+    (cond (inRange f p) (cond (room (some (f .job .places)) hits) (Made p) (Refused 17)) (Refused 16))
     (Refused 15))
     (Refused 14)
 

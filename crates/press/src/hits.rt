@@ -7,13 +7,13 @@ use aries::state::Frame;
 use aries::state::Outcome;
 use aries::state::Progress;
 ghost use mathlib.Core.Path.{_≡_};
+ghost use mathlib.Core.Bool.{cond};
 ghost use lib.IntN.{pos};
 ghost use Rattle.aries.specs.Hits.{modeNumber};
 ghost use Rattle.aries.specs.Judging.{near};
 ghost use Rattle.aries.specs.Moves.{punch};
 ghost use Rattle.aries.specs.Places.{pointOf};
 ghost use Rattle.aries.specs.Runs.{lent, put, Carried};
-ghost use Rattle.aries.specs.Test.{pick};
 ghost use Rattle.press.specs.Hits.{judgedHit, listAfter};
 
 // What is judged of a hit: it is made at a point, or refused by a number.
@@ -55,7 +55,7 @@ fn put_hit(list: &mut [i32], k: usize, p: Point, tool: u8, nibble: bool)
 
 // The refusal of a place that is out of the punching range: 15 where it is too far away, else 16.
 fn out_of_range(place: Place) -> u8
-    ensures { λ r. ⌜ r ≡ pick (near (pointOf place)) 16 15 ⌝ }
+    ensures { λ r. ⌜ r ≡ cond (near (pointOf place)) 16 15 ⌝ }
 {
     let located = place.located();
     match located {

@@ -1,4 +1,5 @@
 -- The listing of an answer and its hits. (Document 01, "The program hitlist".)
+use mathlib.Core.Bool.{cond}
 use mathlib.Core.List.{List, [], _∷_, _++_}
 use Prim.Native.Nat.{ℕ, zero, suc, _+_, _*_}
 use lib.IntN.{ℤ, pos}
@@ -6,7 +7,6 @@ use lib.ListN.{getD}
 use Rattle.signed.specs.Signed.{eqZ}
 use Rattle.aries.specs.declared.answer.Answer.{Answer}
 use Rattle.aries.specs.declared.answer.Answer.the-variants.{Hits, Refused}
-use Rattle.aries.specs.Test.{pick}
 use Rattle.aries.specs.Text.{bytes, space, lineFeed}
 use Rattle.printing.specs.Decimals.{decimal, signedDecimal}
 
@@ -18,7 +18,7 @@ field a = space ∷ signedDecimal a
 
 -- P for mode number 0; N is number 1, and stands for any other
 abbrev pub modeLetter : ℤ → ℕ
-modeLetter m = pick (eqZ m (pos 0)) 80 78
+modeLetter m = cond (eqZ m (pos 0)) 80 78
 
 -- the mode ends the line
 abbrev pub modeEnd : ℤ → List ℕ

@@ -1,6 +1,6 @@
 -- Laws of the lines of a text from a place on: blank lines, the end of a line, a line that is passed over, and a block.
 use mathlib.Core.Path.{_≡_, refl, sym, ap, fun-ext, _∙_}
-use mathlib.Core.Bool.{Bool, true, false, not, cond}
+use mathlib.Core.Bool.{Bool, true, false, not, cond, _||_}
 use mathlib.Core.List.{List, [], _∷_, _++_}
 use Prim.Native.Nat.{ℕ, zero, suc, _+_, _<_, _≤_}
 use native.Mathlib.Omega.{arith}
@@ -18,7 +18,6 @@ use Rattle.aries.specs.declared.setup.Stage.{Stage}
 use Rattle.aries.specs.declared.setup.Stage.the-variants.{Running, Storing}
 use Rattle.aries.specs.declared.state.Progress.{Progress}
 use Rattle.aries.specs.Outcome.{Out, refused, _>>=_}
-use Rattle.aries.specs.Test.{either}
 use Rattle.aries.specs.Letters.{letterV}
 use Rattle.aries.specs.Text.{lineFeed, lines, startsWith}
 use Rattle.aries.specs.Hits.{Made, still, andThen}
@@ -133,10 +132,10 @@ module _ (j : Judging) (t : List ℕ) where
         block-then at line (program stage s m g) h f e
         ∙ ap (λ (x : Out Begun). andThen (_>>=_ x (λ b. placed j t (lineEnd t at) line (b .block) (program stage s m (b .progress)))) (linesFrom j t (lineEnd t at) line)) q
 
-    pub block-spent : either (not (countedAt t at)) (room (j .blocks) (g .blocks)) ≡ false → linesFrom j t at line (program stage s m g) ≡ refused 3 line
+    pub block-spent : (not (countedAt t at) || room (j .blocks) (g .blocks)) ≡ false → linesFrom j t at line (program stage s m g) ≡ refused 3 line
     block-spent q = block-here (begin-spent j line (lineAt t at) g (rw same-counted q))
 
-    module _ (may : either (not (countedAt t at)) (room (j .blocks) (g .blocks)) ≡ true) where
+    module _ (may : (not (countedAt t at) || room (j .blocks) (g .blocks)) ≡ true) where
       pub block-refused : (number : ℕ) → decodedAt t at ≡ Decoded.Refused number → linesFrom j t at line (program stage s m g) ≡ refused number line
       block-refused number q = block-here (begin-refused j line (lineAt t at) g (rw same-counted may) number (decoded-refused t at number q))
 

@@ -1,7 +1,7 @@
 -- Laws of the tests on integers: what a test says, and tests put together.
 -- Assumes nothing.
 use mathlib.Core.Path.{_≡_, refl, sym, ap, _∙_, subst}
-use mathlib.Core.Bool.{Bool, true, false}
+use mathlib.Core.Bool.{Bool, true, false, _&&_, and-true}
 use Prim.Native.Nat.{ℕ, zero, suc}
 use lib.Dec.{T, leb, eqb, leb·zero, leb·suc-zero, leb·suc-suc}
 use lib.IntN.{ℤ, pos, negsuc, negℤ, natAbs}
@@ -10,28 +10,23 @@ use mir.Syntax.{Width}
 use mir.Val.{SFits, toZ, ofZ}
 use mir.Facts.{toZ-ofZ}
 use borrow.Author.Tests.{eqb-true, eq-eqb, ne-eqb}
-use Rattle.signed.specs.Signed.{both, eqZ}
+use Rattle.signed.specs.Signed.{eqZ}
 
 -- ---- both
 
 -- the first of two tests that hold
-pub both-left : (a b : Bool) → both a b ≡ true → a ≡ true
-both-left true b e = refl
-both-left false b e = e
+pub and-left : (a b : Bool) → (a && b) ≡ true → a ≡ true
+and-left true b e = refl
+and-left false b e = e
 
 -- the second
-pub both-right : (a b : Bool) → both a b ≡ true → b ≡ true
-both-right true b e = e
-both-right false b e = cc
+pub and-right : (a b : Bool) → (a && b) ≡ true → b ≡ true
+and-right true b e = e
+and-right false b e = cc
 
 -- two tests that hold
-pub both-true : (a b : Bool) → a ≡ true → b ≡ true → both a b ≡ true
-both-true a b e f = cc
-
--- a test beside one that holds
-pub both-idr : (a : Bool) → both a true ≡ a
-both-idr true = refl
-both-idr false = refl
+pub and-intro : (a b : Bool) → a ≡ true → b ≡ true → (a && b) ≡ true
+and-intro a b e f = cc
 
 -- ---- equality
 
@@ -74,8 +69,8 @@ not-negative (negsuc a) e = subst T e tt
 -- ---- sizes
 
 -- a size within n, by the two ends
-pub size-ends : (a : ℤ) (n : ℕ) → both (leZ (negℤ (pos n)) a) (leZ a (pos n)) ≡ leb (natAbs a) n
+pub size-ends : (a : ℤ) (n : ℕ) → (leZ (negℤ (pos n)) a && leZ a (pos n)) ≡ leb (natAbs a) n
 size-ends (pos a) zero = simp (leb·zero a)
 size-ends (pos a) (suc n) = refl
 size-ends (negsuc a) zero = sym (leb·suc-zero a)
-size-ends (negsuc a) (suc n) = both-idr (leb a n) ∙ sym (leb·suc-suc a n)
+size-ends (negsuc a) (suc n) = and-true (leb a n) ∙ sym (leb·suc-suc a n)

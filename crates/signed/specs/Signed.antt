@@ -1,13 +1,9 @@
 -- Tests on whole numbers with a sign, and a number from its sign and size.
 -- Assumes nothing.
-use mathlib.Core.Bool.{Bool, true, false, _&&_}
+use mathlib.Core.Bool.{Bool, true, false}
 use Prim.Native.Nat.{ℕ}
 use lib.Dec.{eqb}
 use lib.IntN.{ℤ, pos, negsuc, negℤ}
-
--- the two tests hold
-abbrev pub both : Bool → Bool → Bool
-both a b = a && b
 
 -- the two numbers are the same
 abbrev pub eqZ : ℤ → ℤ → Bool

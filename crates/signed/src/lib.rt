@@ -1,11 +1,12 @@
 // Arithmetic on signed numbers, each function with its result as an equation in the integers. Positions are i32 and what is computed from
 // them is i64, wide enough for a sum or a product of a few of them, so that hardly a function asks anything of its arguments.
 ghost use mathlib.Core.Path.{_≡_};
+ghost use mathlib.Core.Bool.{_&&_};
 ghost use Prim.Native.Nat.{_*_, _≤_};
 ghost use lib.Dec.{leb};
 ghost use lib.IntN.{pos, natAbs, _+ℤ_, _*ℤ_};
 ghost use lib.Signed.{leZ, ltZ};
-ghost use Rattle.signed.specs.Signed.{both, eqZ, withSign};
+ghost use Rattle.signed.specs.Signed.{eqZ, withSign};
 
 // The same number, wider.
 pub fn widen(a: i32) -> i64
@@ -80,7 +81,7 @@ pub fn equal(a: i32, b: i32) -> bool
 
 // Whether low ≤ a ≤ high.
 pub fn between(low: i32, a: i64, high: i32) -> bool
-    ensures { λ r. ⌜ r ≡ both (leZ low a) (leZ a high) ⌝ }
+    ensures { λ r. ⌜ r ≡ (leZ low a && leZ a high) ⌝ }
 {
     if (low as i64) <= a {
         a <= (high as i64)

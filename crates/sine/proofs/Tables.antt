@@ -1,15 +1,14 @@
 -- The entries of the three tables, one test over all of them, and the lemma that turns the test into the rule at each entry.
 -- Assumes nothing.
 use mathlib.Core.Path.{_≡_, refl, sym}
-use mathlib.Core.Bool.{Bool, true}
+use mathlib.Core.Bool.{Bool, true, _&&_}
 use mathlib.Core.List.{List, [], _∷_}
 use Prim.Native.Nat.{ℕ, _-_, _/_, _%_, _<_, _≤_}
 use native.Mathlib.Omega.{arith}
 use lib.Dec.{eqb, leb}
 use lib.ListN.{length, getD}
 use borrow.Author.Tests.{eqb-true, leb-true}
-use Rattle.signed.specs.Signed.{both}
-use Rattle.signed.proofs.Tests.{both-left, both-right}
+use Rattle.signed.proofs.Tests.{and-left, and-right}
 use Rattle.sine.specs.Series.{one, degreeSine, hundredthSine, hundredthCosine, Follows, Tables}
 use Rattle.sine.specs.Sine.{joined, quadrantSine}
 use Rattle.sine.proofs.Table.{every, every-at}
@@ -58,14 +57,14 @@ hundredthCosines =
 
 -- the test of an entry: it is what the rule says of its place, and at most one
 abbrev right : (ℕ → ℕ) → ℕ → ℕ → Bool
-right rule k x = both (eqb x (rule k)) (leb x one)
+right rule k x = eqb x (rule k) && leb x one
 
 -- and of a table
 abbrev follows : (ℕ → ℕ) → List ℕ → Bool
 follows rule table = every (right rule) 0 table
 
 -- the one test, over all 291 entries
-tables-follow : both (follows degreeSine degreeSines) (both (follows hundredthSine hundredthSines) (follows hundredthCosine hundredthCosines)) ≡ true
+tables-follow : (follows degreeSine degreeSines && (follows hundredthSine hundredthSines && follows hundredthCosine hundredthCosines)) ≡ true
 unfolding degreeSine hundredthSine hundredthCosine
 tables-follow = refl
 
@@ -80,27 +79,27 @@ entry rule table e k h =
     let x = getD table k 0 in
     let t = every-at (right rule) table e k h in
     record {
-      value = eqb-true x (rule k) (both-left (eqb x (rule k)) (leb x one) t);
-      bound = leb-true x one (both-right (eqb x (rule k)) (leb x one) t);
+      value = eqb-true x (rule k) (and-left (eqb x (rule k)) (leb x one) t);
+      bound = leb-true x one (and-right (eqb x (rule k)) (leb x one) t);
     }
 
 -- S(d)
 pub degree-sine : (k : ℕ) → k < 91 → Entry degreeSine degreeSines k
-degree-sine k h = entry degreeSine degreeSines (both-left (follows degreeSine degreeSines) _ tables-follow) k h
+degree-sine k h = entry degreeSine degreeSines (and-left (follows degreeSine degreeSines) _ tables-follow) k h
 
 -- the test of the two tables of hundredths
-hundredths-follow : both (follows hundredthSine hundredthSines) (follows hundredthCosine hundredthCosines) ≡ true
-hundredths-follow = both-right (follows degreeSine degreeSines) _ tables-follow
+hundredths-follow : (follows hundredthSine hundredthSines && follows hundredthCosine hundredthCosines) ≡ true
+hundredths-follow = and-right (follows degreeSine degreeSines) _ tables-follow
 
 -- s(h)
 pub hundredth-sine : (k : ℕ) → k < 100 → Entry hundredthSine hundredthSines k
 hundredth-sine k h =
-    entry hundredthSine hundredthSines (both-left (follows hundredthSine hundredthSines) _ hundredths-follow) k h
+    entry hundredthSine hundredthSines (and-left (follows hundredthSine hundredthSines) _ hundredths-follow) k h
 
 -- c(h)
 pub hundredth-cosine : (k : ℕ) → k < 100 → Entry hundredthCosine hundredthCosines k
 hundredth-cosine k h =
-    entry hundredthCosine hundredthCosines (both-right (follows hundredthSine hundredthSines) _ hundredths-follow) k h
+    entry hundredthCosine hundredthCosines (and-right (follows hundredthSine hundredthSines) _ hundredths-follow) k h
 
 -- the entries of the three tables are the rules'
 pub tables-right : Tables degreeSines hundredthSines hundredthCosines

@@ -1,12 +1,11 @@
 -- Laws of the size of a body: by the line at a place of the text, and from line to line.
 use mathlib.Core.Path.{_≡_, refl, sym, ap, _∙_}
-use mathlib.Core.Bool.{Bool, true, false}
+use mathlib.Core.Bool.{Bool, true, false, cond}
 use mathlib.Core.List.{List}
 use mathlib.Core.Option.{Option, none, some}
 use Prim.Native.Nat.{ℕ, _+_, _-_, _≤_, _<_}
 use native.Mathlib.Omega.{arith}
 use lib.ListN.{length, getD, drop, length-take}
-use Rattle.aries.specs.Test.{pick}
 use Rattle.aries.specs.Text.{lines}
 use Rattle.aries.specs.Bodies.{isOwnClose, longer, bodySize}
 use Rattle.text.specs.Lines.{lineLength, lineAt, lineEnd}
@@ -23,7 +22,7 @@ module _ (t : List ℕ) (at : ℕ) (h : at < length t) where
 
   module _ (n : ℕ) where
     -- a U or V line ends the search
-    size-mark : marks (getD t at 0) ≡ true → bodySize n (lines (drop at t)) ≡ pick (isOwnClose n (lineAt t at)) (some 0) none
+    size-mark : marks (getD t at 0) ≡ true → bodySize n (lines (drop at t)) ≡ cond (isOwnClose n (lineAt t at)) (some 0) none
     unfolding bodySize
     size-mark m = ap (bodySize n) (lines-at t at h) ∙ simp (bodySize, line-marks, m)
 
@@ -76,8 +75,8 @@ module _ (n : ℕ) (t : List ℕ) (from : ℕ) where
         ∙ longer-again (at - from) (lineLength (drop at t) + 1) (lineEnd t at + 1 - from) (bodySize n (lines (drop (lineEnd t at + 1) t))) k
 
     module _ (m : marks (getD t at 0) ≡ true) where
-      at-mark : (b : Bool) → isOwnClose n (lineAt t at) ≡ b → size ≡ longer (at - from) (pick b (some 0) none)
-      at-mark b o = s ∙ ap (longer (at - from)) (size-mark t at h n m ∙ ap (λ (x : Bool). pick x (some 0) none) o)
+      at-mark : (b : Bool) → isOwnClose n (lineAt t at) ≡ b → size ≡ longer (at - from) (cond b (some 0) none)
+      at-mark b o = s ∙ ap (longer (at - from)) (size-mark t at h n m ∙ ap (λ (x : Bool). cond x (some 0) none) o)
 
       -- the own V line
       pub sized-own : from ≤ at → isOwnClose n (lineAt t at) ≡ true → Sized t from (Bytes (at - from)) size

@@ -1,19 +1,18 @@
 -- The size of a body as the code answers it.
 use mathlib.Core.Path.{_≡_}
-use mathlib.Core.Bool.{Bool}
+use mathlib.Core.Bool.{Bool, _||_}
 use mathlib.Core.List.{List}
 use mathlib.Core.Option.{Option, none, some}
 use Prim.Native.Nat.{ℕ, _+_, _<_}
 use lib.Dec.{eqb}
 use lib.ListN.{length}
 use Rattle.aries.specs.Letters.{letterU, letterV}
-use Rattle.aries.specs.Test.{either}
 use Rattle.storing.specs.declared.Size.{Size}
 use Rattle.storing.specs.declared.Size.the-variants.{Bytes, Missing}
 
 -- a first byte of U or V lines
 abbrev pub marks : ℕ → Bool
-marks b = either (eqb b letterU) (eqb b letterV)
+marks b = eqb b letterU || eqb b letterV
 
 -- the bytes of a body, if there is one
 abbrev pub sizeOf : Option ℕ → Size

@@ -12,11 +12,10 @@ use lib.Dec.{eqb}
 use lib.ListN.{length, take, drop, getD, set, drop-of-length-le}
 use lib.Seq.{drop-cons, take-suc-set, take-set-le, append-snoc, length-take-le}
 use borrow.Author.Tests.{eq-eqb, ne-eqb}
-use Rattle.aries.specs.Test.{both, every}
+use Rattle.aries.specs.Test.{every}
 use Rattle.aries.specs.Text.{space, lineFeed, isAllowed, strayLine, withoutSpaces}
 use Rattle.text.specs.Cleaning.{Clean, Copied, orZero}
 use Rattle.text.specs.declared.Cleaned.the-variants.{Stray, Dense}
-use Rattle.text.proofs.Tests.{both-and}
 
 -- ---- whether all bytes are allowed
 
@@ -25,7 +24,7 @@ module _ (t : List ℕ) (i : ℕ) where
   pub allowed-at :
       i < length t → every isAllowed (drop i t) ≡ isAllowed (getD t i 0) && every isAllowed (drop (i + 1) t)
   allowed-at h =
-      rw (drop-cons t i 0 h, add-one i) (both-and (isAllowed (getD t i 0)) (every isAllowed (drop (suc i) t)))
+      rw (drop-cons t i 0 h, add-one i)
 
   -- no byte is left
   pub allowed-past : length t ≤ i → every isAllowed (drop i t) ≡ true
@@ -43,7 +42,7 @@ allowed-stray line (b ∷ bs) = go (isAllowed b) (eqb b lineFeed) (λ l. allowed
   where
     go :
         (p q : Bool) → ((l : ℕ) → every isAllowed bs ≡ isNone (strayLine l bs))
-        → both p (every isAllowed bs)
+        → (p && every isAllowed bs)
         ≡ isNone (elim p [
           | false ↦ some line
           | true ↦ elim q [ true ↦ strayLine (suc line) bs | false ↦ strayLine line bs ]

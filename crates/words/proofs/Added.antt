@@ -1,7 +1,7 @@
 -- Laws of `added`: its four cases, and the words by letter.
 -- Assumes nothing.
 use mathlib.Core.Path.{_≡_, refl, sym, ap, _∙_}
-use mathlib.Core.Bool.{Bool, true, false}
+use mathlib.Core.Bool.{Bool, true, false, cond}
 use Prim.Native.Nat.{ℕ, _+_, _≤_}
 use native.Mathlib.Omega.{arith}
 use lib.Dec.{eqb}
@@ -9,7 +9,6 @@ use lib.ListN.{set}
 use borrow.Author.Tests.{eq-eqb, ne-eqb, eqb-true, eqb-false}
 use Rattle.aries.specs.declared.word.Word.{Word}
 use Rattle.aries.specs.declared.word.Words.{Words}
-use Rattle.aries.specs.Test.{pick}
 use Rattle.aries.specs.Letters.{letterG, letterN, indexOf}
 use Rattle.aries.specs.Words.{isReadingCode, withReading, withCode, withNumber, withLetter, added}
 
@@ -37,7 +36,7 @@ added-others w letter v = go (eqb letter letterG) (isReadingCode v) (eqb letter 
   where
     go :
         (g r n : Bool)
-        → pick g (pick r (withReading w v) (withCode w v)) (pick n (withNumber w v) (withLetter w letter v)) .others
+        → cond g (cond r (withReading w v) (withCode w v)) (cond n (withNumber w v) (withLetter w letter v)) .others
         ≤ w .others + 1
     go true true n = omega arith
     go true false n = omega arith

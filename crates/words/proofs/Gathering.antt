@@ -1,7 +1,7 @@
 -- Laws of `gather` and `gathered`: the words of a line one by one, and what the code answers of them.
 -- Assumes nothing.
 use mathlib.Core.Path.{_≡_, refl, sym, ap, _∙_, subst}
-use mathlib.Core.Bool.{Bool, true, false}
+use mathlib.Core.Bool.{Bool, true, false, cond}
 use mathlib.Core.List.{List, [], _∷_}
 use mathlib.Core.Option.{Option, none, some}
 use Prim.Native.Nat.{ℕ, zero, suc, _+_, _-_, _≤_}
@@ -12,7 +12,6 @@ use lib.ListN.{length, drop, length-drop}
 use lib.Seq.{drop-drop}
 use borrow.Author.Tests.{eqb-true, ne-eqb}
 use Rattle.aries.specs.declared.word.Words.{Words}
-use Rattle.aries.specs.Test.{pick}
 use Rattle.aries.specs.Words.{Read, word, noWords, added, gather, words}
 use Rattle.text.specs.Lines.{lineLength}
 use Rattle.words.specs.declared.Tally.{Tally}
@@ -42,7 +41,7 @@ some-left b bs = ne-eqb (length (b ∷ bs)) 0 (λ e. omega arith)
 
 -- words as `gather` gives them
 abbrev ifFormed : Gathered → Option Words
-ifFormed g = pick (g .formed) (some (g .words)) none
+ifFormed g = cond (g .formed) (some (g .words)) none
 
 -- they are those of the line where no bytes are left
 gathered-gather : (n : ℕ) (w : Words) (at : ℕ) (bs : List ℕ) → gather n w bs ≡ ifFormed (gathered n w at bs)

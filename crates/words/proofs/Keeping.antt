@@ -1,7 +1,7 @@
 -- Laws of the words as the code keeps them: a word in its place of both lists, and all words with a tally.
 -- Assumes nothing.
 use mathlib.Core.Path.{_≡_, refl, sym, ap, _∙_}
-use mathlib.Core.Bool.{Bool, true, false}
+use mathlib.Core.Bool.{Bool, true, false, and-false}
 use mathlib.Core.List.{List, [], _∷_}
 use Prim.Native.Nat.{ℕ, zero, suc, _≤_, _<_}
 use native.Mathlib.Nat.{not-suc-le-zero}
@@ -13,7 +13,6 @@ use borrow.Author.Tests.{ltb-true, le-ltb, le-leb}
 use Rattle.aries.specs.declared.word.Word.{Word}
 use Rattle.aries.specs.Words.{noWord, isPlain}
 use Rattle.aries.specs.declared.word.Words.{Words}
-use Rattle.words.proofs.Tests.{both-false}
 use Rattle.words.specs.declared.Tally.{Tally}
 use Rattle.words.specs.Keeping.{wordIn, formOf, firstWords, lettersOf, wordsFrom, retold}
 
@@ -46,7 +45,7 @@ form-plain (suc zero) number = refl
 form-plain (suc (suc zero)) number = refl
 form-plain (suc (suc (suc n))) number =
     let h : 3 ≤ suc (suc (suc n)) = omega arith in
-    le-ltb (suc (suc (suc n))) 2 (omega arith) ∙ sym (simp (le-leb 3 (suc (suc (suc n))) h, both-false))
+    le-ltb (suc (suc (suc n))) 2 (omega arith) ∙ sym (simp (le-leb 3 (suc (suc (suc n))) h, and-false))
 
 -- ---- the words of two lists
 

@@ -2,7 +2,7 @@
 -- is read of the other.
 -- Assumes nothing.
 use mathlib.Core.Path.{_≡_, refl, sym, ap, _∙_}
-use mathlib.Core.Bool.{Bool, true, false}
+use mathlib.Core.Bool.{Bool, true, false, cond}
 use mathlib.Core.List.{List, [], _∷_}
 use Prim.Native.Nat.{ℕ, zero, suc, _+_, _-_, _*_, _≤_, _<_}
 use native.Mathlib.Omega.{arith}
@@ -10,7 +10,6 @@ use lib.Dec.{eqb, ltb, lit<}
 use lib.ListN.{length, drop, getD, List·getD-eq-default}
 use lib.Seq.{length-take-le, getD-take}
 use borrow.Author.Tests.{eqb-true, eqb-false, ltb-true, ltb-false, ne-eqb}
-use Rattle.aries.specs.Test.{pick}
 use Rattle.aries.specs.Text.{lineFeed, isCapital, isDigit}
 use Rattle.aries.specs.Words.{Digits, digits, isSign, point, frontSize, word}
 use Rattle.text.specs.Lines.{lineLength}
@@ -137,11 +136,11 @@ line-word bs = go (isCapital (getD bs 0 0)) refl
     go false e = rw (word-number line, word-number bs) (simp (same, e))
     go true e =
         let h : 0 < lineLength bs = omega (arith, test-inside isCapital line 0 refl (same ∙ e), line-length bs) in
-        let f : frontSize line ≡ frontSize bs = line-byte (λ (b : ℕ). pick (isSign b) 2 1) bs 1 refl (omega arith) in
+        let f : frontSize line ≡ frontSize bs = line-byte (λ (b : ℕ). cond (isSign b) 2 1) bs 1 refl (omega arith) in
         let k : frontSize bs ≤ lineLength bs = omega (arith, f, front-inside line 0 (frontSize line) (same ∙ e) refl, line-length bs) in
         word-number line
         ∙ rw (getD-take (lineLength bs) bs 0 0 h)
-        (line-byte (λ (b : ℕ). readOf (getD bs 0 0) b (pick (isSign b) 2 1) (number (drop (pick (isSign b) 2 1) line))) bs 1 refl (omega arith))
+        (line-byte (λ (b : ℕ). readOf (getD bs 0 0) b (cond (isSign b) 2 1) (number (drop (cond (isSign b) 2 1) line))) bs 1 refl (omega arith))
         ∙ ap (readOf (getD bs 0 0) (getD bs 1 0) (frontSize bs))
         (ap number (line-drop (frontSize bs) bs k) ∙ line-number (drop (frontSize bs) bs))
         ∙ sym (word-number bs)

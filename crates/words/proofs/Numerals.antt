@@ -1,7 +1,7 @@
 -- Laws of `digits`: one step at a place of a line, and bounds of the count and the value.
 -- Assumes nothing.
 use mathlib.Core.Path.{_≡_, refl, sym, ap, _∙_}
-use mathlib.Core.Bool.{Bool, true, false}
+use mathlib.Core.Bool.{Bool, true, false, cond}
 use mathlib.Core.List.{List, [], _∷_}
 use Prim.Native.Nat.{ℕ, zero, suc, _+_, _-_, _*_, _^_, _≤_, _<_}
 use native.Mathlib.Nat.{add-zero, pow-suc, pow-le-pow-right, lt-of-lt-of-le}
@@ -12,7 +12,6 @@ use lib.ListN.{length, drop, getD}
 use lib.Seq.{drop-drop, getD-drop}
 use borrow.Author.Tests.{eqb-true}
 use Rattle.aries.specs.Text.{isDigit}
-use Rattle.aries.specs.Test.{pick}
 use Rattle.aries.specs.Words.{Digits, digits, hundredths}
 use Rattle.words.specs.Reading.{Held, held, meant}
 use Rattle.words.proofs.Bytes.{digit-high}
@@ -112,7 +111,7 @@ pub hundredths-small :
 hundredths-small whole decimals h s k = go (eqb (decimals .count) 1) refl
   where
     go :
-        (t : Bool) → eqb (decimals .count) 1 ≡ t → whole .value * 100 + decimals .value * pick t 10 1 < 1000000
+        (t : Bool) → eqb (decimals .count) 1 ≡ t → whole .value * 100 + decimals .value * cond t 10 1 < 1000000
     go true e =
         let one : decimals .count ≡ 1 = eqb-true (decimals .count) 1 e in
         let d : decimals .value < 10 ^ 1 = below-power (decimals .value) (decimals .count) 1 s (omega arith) in

@@ -2,7 +2,7 @@
 -- and what the code answers of them.
 -- Assumes nothing.
 use mathlib.Core.Path.{_≡_, refl, ap, _∙_, subst}
-use mathlib.Core.Bool.{Bool, true, false}
+use mathlib.Core.Bool.{Bool, true, false, cond, _&&_, and-false}
 use mathlib.Core.List.{List}
 use mathlib.Core.Option.{Option, none, some}
 use Prim.Native.Nat.{ℕ, _+_, _-_, _≤_, _<_}
@@ -13,16 +13,16 @@ use lib.IntN.{natAbs}
 use lib.ListN.{length, getD, drop, length-drop}
 use lib.Seq.{getD-drop, drop-drop}
 use borrow.Author.Tests.{le-leb, leb-true}
-use Rattle.aries.specs.Test.{both, within, pick}
+use Rattle.aries.specs.Test.{within}
 use Rattle.aries.specs.Text.{isCapital}
 use Rattle.aries.specs.Words.{Digits, Read, digits, isSign, minus, point, frontSize, wordOf, word}
 use Rattle.signed.proofs.Integers.{abs-withSign}
-use Rattle.signed.proofs.Tests.{both-left, both-right}
+use Rattle.signed.proofs.Tests.{and-left, and-right}
 use Rattle.words.specs.declared.Number.{Number}
 use Rattle.words.specs.declared.Reading.{Reading}
 use Rattle.words.specs.Keeping.{wordIn}
 use Rattle.words.specs.Reading.{numberOf, number, noReading, readingOf, readingAt}
-use Rattle.words.proofs.Tests.{both-false, pick-same}
+use Rattle.words.proofs.Tests.{cond-same}
 use Rattle.words.proofs.Bytes.{test-inside, front-inside}
 use Rattle.words.proofs.Keeping.{form-word, form-positive}
 use Rattle.words.proofs.Numerals.{Bounded, digits-bounded, below-power, hundredths-small}
@@ -68,7 +68,7 @@ module _ (bs : List ℕ) where
       go true true e f =
           let h : whole .count < length bs = test-inside (λ (b : ℕ). eqb b point) bs (whole .count) refl e in
           let k : whole .count ≤ 4 =
-          leb-true (whole .count) 4 (both-right (leb 1 (whole .count)) (leb (whole .count) 4) f) in
+          leb-true (whole .count) 4 (and-right (leb 1 (whole .count)) (leb (whole .count) 4) f) in
           simp (e, f) (
             omega (arith, d .inside, length-drop (whole .count + 1) bs),
             hundredths-small whole decimals (below-power (whole .value) (whole .count) 4 (w .small) k) (d .small)
@@ -88,7 +88,7 @@ number-fits t from n h e =
 -- from its letter, the byte where its sign is due, how many bytes these take, and its number
 abbrev pub readOf : ℕ → ℕ → ℕ → Number → Option Read
 readOf letter sign front n =
-    pick (both (isCapital letter) (leb 1 (n .size)))
+    cond (isCapital letter && leb 1 (n .size))
     (some (record {
       letter = letter;
       word = wordOf (isSign sign) (eqb sign minus) (n .pointed) (n .value);
@@ -117,9 +117,9 @@ module _ (bs : List ℕ) where
           (q p r : Bool) → eqb behind point ≡ q → leb 1 (first .count) ≡ p → leb (first .count) 4 ≡ r
           → word bs ≡ readOf (getD bs 0 0) (getD bs 1 0) (frontSize bs) (numberOf first behind second)
       go false p r g e h = simp g
-      go true false r g e h = simp (e, g, both-false)
+      go true false r g e h = simp (e, g, and-false)
       go true true false g e h =
-          simp (e, g, h, both-false) (pick-same (both (isCapital (getD bs 0 0)) true) none)
+          simp (e, g, h, and-false) (cond-same (isCapital (getD bs 0 0) && true) none)
       go true true true g e h =
           let k = le-leb 1 (first .count + 1 + second .count) (omega arith) in
           simp (e, g, h, k) (simp add-assoc)
@@ -146,16 +146,16 @@ module _ (bs : List ℕ) (r : Read) (e : word bs ≡ some r) where
       }
 
   pub formed : Formed bs r
-  formed = go (both (isCapital (getD bs 0 0)) (leb 1 (n .size))) refl
+  formed = go (isCapital (getD bs 0 0) && leb 1 (n .size)) refl
     where
-      go : (t : Bool) → both (isCapital (getD bs 0 0)) (leb 1 (n .size)) ≡ t → Formed bs r
+      go : (t : Bool) → (isCapital (getD bs 0 0) && leb 1 (n .size)) ≡ t → Formed bs r
       go false g =
           let z : word bs ≡ none = word-number bs ∙ simp g in
           let o : _≡_ {A = ℕ} 0 1 = cc in
           absurd (omega arith)
       go true g =
-          let c : isCapital (getD bs 0 0) ≡ true = both-left (isCapital (getD bs 0 0)) (leb 1 (n .size)) g in
-          let b : 1 ≤ n .size = leb-true 1 (n .size) (both-right (isCapital (getD bs 0 0)) (leb 1 (n .size)) g) in
+          let c : isCapital (getD bs 0 0) ≡ true = and-left (isCapital (getD bs 0 0)) (leb 1 (n .size)) g in
+          let b : 1 ≤ n .size = leb-true 1 (n .size) (and-right (isCapital (getD bs 0 0)) (leb 1 (n .size)) g) in
           let s = number-small (drop (frontSize bs) bs) in
           let z : word bs ≡ some found = word-number bs ∙ simp g in
           let q : found ≡ r = cc in
@@ -172,19 +172,19 @@ module _ (bs : List ℕ) (r : Read) (e : word bs ≡ some r) where
 
 module _ (t : List ℕ) (at : ℕ) where
   word-at :
-      (front : ℕ) → front ≡ pick (isSign (getD t (at + 1) 0)) 2 1
+      (front : ℕ) → front ≡ cond (isSign (getD t (at + 1) 0)) 2 1
       → word (drop at t) ≡ readOf (getD t at 0) (getD t (at + 1) 0) front (number (drop (at + front) t))
   word-at front f = word-number (drop at t) ∙ simp (getD-drop, drop-drop, ← f, add-zero)
 
   -- no letter, no word
   pub reading-none : isCapital (getD t at 0) ≡ false → noReading ≡ readingAt at (word (drop at t))
-  reading-none e = rw (word-at (pick (isSign (getD t (at + 1) 0)) 2 1) refl) (simp e)
+  reading-none e = rw (word-at (cond (isSign (getD t (at + 1) 0)) 2 1) refl) (simp e)
 
   -- a letter, and then a number or none
   pub reading-some :
       (letter sign front : ℕ) (n : Number) → letter ≡ getD t at 0 → sign ≡ getD t (at + 1) 0
       → n ≡ number (drop (at + front) t) → isCapital (getD t at 0) ≡ true
-      → front ≡ pick (isSign (getD t (at + 1) 0)) 2 1
+      → front ≡ cond (isSign (getD t (at + 1) 0)) 2 1
       → readingOf letter sign (at + front) n ≡ readingAt at (word (drop at t))
   reading-some letter sign front n l s m c f = rw (word-at front f, ← l, ← s, ← m) (go (leb 1 (n .size)) refl)
     where

@@ -1,6 +1,6 @@
 -- The words of a block as the code keeps them: two lists by letter, and a tally of the rest.
 use mathlib.Core.Path.{_≡_}
-use mathlib.Core.Bool.{Bool, true, false}
+use mathlib.Core.Bool.{Bool, true, false, cond, _||_}
 use mathlib.Core.List.{List, [], _∷_}
 use Prim.Native.Nat.{ℕ, zero, suc}
 use lib.Dec.{leb, ltb, eqb}
@@ -8,7 +8,6 @@ use lib.IntN.{ℤ, pos}
 use lib.ListN.{getD, drop}
 use Rattle.aries.specs.declared.word.Word.{Word}
 use Rattle.aries.specs.declared.word.Words.{Words}
-use Rattle.aries.specs.Test.{either, pick}
 use Rattle.aries.specs.Letters.{letterG}
 use Rattle.aries.specs.Words.{has, added}
 use Rattle.words.specs.declared.Tally.{Tally}
@@ -18,11 +17,11 @@ use Rattle.words.specs.declared.Tally.{Tally}
 -- the word that a form and a number stand for
 abbrev pub wordIn : ℕ → ℤ → Word
 wordIn form number =
-    record { written = ltb 0 form; signed = either (eqb form 2) (eqb form 4); pointed = leb 3 form; value = number }
+    record { written = ltb 0 form; signed = eqb form 2 || eqb form 4; pointed = leb 3 form; value = number }
 
 -- the form of a word that is written, by whether it has a sign and a point
 abbrev pub formOf : Bool → Bool → ℕ
-formOf signed pointed = pick pointed (pick signed 4 3) (pick signed 2 1)
+formOf signed pointed = cond pointed (cond signed 4 3) (cond signed 2 1)
 
 -- the words that two lists stand for at their first places
 abbrev pub firstWords : ℕ → List ℕ → List ℤ → List Word

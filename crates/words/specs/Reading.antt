@@ -1,5 +1,5 @@
 -- What reading digits, a number and a word answers.
-use mathlib.Core.Bool.{true, false}
+use mathlib.Core.Bool.{true, false, cond}
 use mathlib.Core.List.{List}
 use mathlib.Core.Option.{Option, none, some}
 use Prim.Native.Nat.{ℕ, _+_}
@@ -7,7 +7,7 @@ use lib.Dec.{leb, eqb}
 use lib.IntN.{pos}
 use lib.ListN.{getD, drop}
 use Rattle.signed.specs.Signed.{withSign}
-use Rattle.aries.specs.Test.{within, pick}
+use Rattle.aries.specs.Test.{within}
 use Rattle.aries.specs.Words.{Digits, Read, digits, isSign, minus, point, hundredths}
 use Rattle.words.specs.declared.Digits as code
 use Rattle.words.specs.declared.Number.{Number}
@@ -30,8 +30,8 @@ noNumber = record { value = 0; pointed = false; size = 0 }
 -- a number from its digits, the byte behind them, and the digits behind that; one that takes no bytes is none
 abbrev pub numberOf : Digits → ℕ → Digits → Number
 numberOf whole stop decimals =
-    pick (eqb stop point)
-    (pick (within 1 4 (whole .count))
+    cond (eqb stop point)
+    (cond (within 1 4 (whole .count))
     (record { value = hundredths whole decimals; pointed = true; size = whole .count + 1 + decimals .count })
     noNumber)
     (record { value = whole .value; pointed = false; size = whole .count })
@@ -48,7 +48,7 @@ noReading = record { letter = 0; form = 0; number = pos 0; end = 0 }
 -- a word from its letter, the byte where its sign is due, and its number with the place where that starts
 abbrev pub readingOf : ℕ → ℕ → ℕ → Number → Reading
 readingOf letter sign from n =
-    pick (leb 1 (n .size))
+    cond (leb 1 (n .size))
     (record {
       letter = letter;
       form = formOf (isSign sign) (n .pointed);

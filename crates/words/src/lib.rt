@@ -1,12 +1,13 @@
 // The words of a block: digits, a word, and all words of a line by their letters.
 ghost use mathlib.Core.List.{List, [], _∷_};
 ghost use mathlib.Core.Path.{_≡_};
+ghost use mathlib.Core.Bool.{cond, _&&_};
 ghost use Prim.Native.Nat.{_+_, _*_, _^_, _≤_, _<_};
 ghost use lib.Dec.{eqb};
 ghost use lib.IntN.{pos};
 ghost use lib.ListN.{drop, getD, replicate};
 ghost use Rattle.aries.specs.declared.word.Word.{Word};
-ghost use Rattle.aries.specs.Test.{both, among, within, pick};
+ghost use Rattle.aries.specs.Test.{among, within};
 ghost use Rattle.aries.specs.Letters.{letterA, letterG};
 ghost use Rattle.aries.specs.Text.{isCapital, isDigit};
 ghost use Rattle.aries.specs.Words.{digits, isSign, word};
@@ -111,7 +112,7 @@ fn read_digits(text: &[u8], from: usize, most: usize) -> Digits
 // Hundredths of a number with a point: its digits before the point, and one or two after it, or none.
 fn hundredths_of(whole: u32, decimals: Digits) -> u32
     requires { ⌜ (whole < 10000) × (decimals .value < 100) ⌝ }
-    ensures { λ r. ⌜ r ≡ whole * 100 + decimals .value * pick (eqb (decimals .count) 1) 10 1 ⌝ }
+    ensures { λ r. ⌜ r ≡ whole * 100 + decimals .value * cond (eqb (decimals .count) 1) 10 1 ⌝ }
 {
     if decimals.count == 1 {
         whole * 100 + decimals.value * 10
@@ -199,7 +200,7 @@ fn make_reading(letter: u8, sign: u8, from: usize, number: Number) -> Reading
 
 // How many bytes stand before the number: the letter, and the sign if the byte after it is one.
 fn front_size(sign: u8) -> usize
-    ensures { λ r. ⌜ r ≡ pick (isSign sign) 2 1 ⌝ }
+    ensures { λ r. ⌜ r ≡ cond (isSign sign) 2 1 ⌝ }
 {
     if is_sign(sign) { 2 } else { 1 }
 }
@@ -226,7 +227,7 @@ fn is_plain(form: u8) -> bool
 
 // Whether a G word is G90 or G91.
 fn is_reading_code(form: u8, code: u32) -> bool
-    ensures { λ r. ⌜ r ≡ both (isPlain (wordIn form (pos 0))) (among (90 ∷ 91 ∷ []) code) ⌝ }
+    ensures { λ r. ⌜ r ≡ (isPlain (wordIn form (pos 0)) && among (90 ∷ 91 ∷ []) code) ⌝ }
 {
     is_plain(form) & ((code == 90) | (code == 91))
 }
@@ -292,7 +293,7 @@ fn with_number(mut tally: Tally) -> Tally
 
 // Whether a letter is an A that stands behind the G of a pattern.
 fn is_late(letter: u8, coded: bool, code: u32) -> bool
-    ensures { λ r. ⌜ r ≡ both (eqb letter letterA) (both coded (isPatternCode code)) ⌝ }
+    ensures { λ r. ⌜ r ≡ (eqb letter letterA && (coded && isPatternCode code)) ⌝ }
 {
     if letter == b'A' {
         coded & is_pattern_code(code)

@@ -1,13 +1,12 @@
 -- All places are near, and so is the last. Assumes nothing.
 use borrow.Author.Needs.{needs}
 use mathlib.Core.Path.{_≡_, sym, ap, _∙_}
-use mathlib.Core.Bool.{Bool, true}
+use mathlib.Core.Bool.{Bool, true, cond}
 use Prim.Native.Nat.{_-_}
 use native.Mathlib.Omega.{arith}
 use Rattle.aries.specs.declared.point.Located.the-variants.{At, TooFar}
 use Rattle.aries.specs.Layouts.{copyCount, copyPlace}
 use Rattle.aries.specs.Places.{located}
-use Rattle.aries.specs.Test.{pick}
 use Rattle.lanes.specs.Cursors.{passed}
 use Rattle.placing.specs.Places.{laneEnd, allNear}
 use Rattle.placing.proofs.AllNear.{all-near}
@@ -41,7 +40,7 @@ returns c =
     rw (c .before .before .before .last-lane .ensures, c .before .before .lane-end .ensures) (omega (arith, count-lanes (a .layout) (a .copies))) in
     c .located .ensures
     ∙ ap located (c .before .copy-place .ensures ∙ ap p ends)
-    ∙ ap (λ (b : Bool). pick b (At (p last)) TooFar) (all-near (a .origin) (a .layout) (a .copies) last (omega arith) whole ∙ sym whole)
+    ∙ ap (λ (b : Bool). cond b (At (p last)) TooFar) (all-near (a .origin) (a .layout) (a .copies) last (omega arith) whole ∙ sym whole)
 
 returns-2 : tie.Need-returns-2
 returns-2 c = simp (sym (c .before .all-near .ensures) ∙ c .if1 .left)

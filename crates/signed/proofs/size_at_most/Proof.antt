@@ -1,7 +1,7 @@
 -- The size is within n where the number lies between minus n and n. Assumes nothing.
 use borrow.Author.Needs.{needs}
 use mathlib.Core.Path.{_≡_, sym, ap, _∙_}
-use mathlib.Core.Bool.{Bool, true, false}
+use mathlib.Core.Bool.{Bool, true, false, _&&_}
 use native.Mathlib.Omega.{arith}
 use Prim.Native.Nat.{_≤_, _<_, _^_}
 use lib.Dec.{lit<}
@@ -10,7 +10,6 @@ use lib.Signed.{leZ}
 use mir.Syntax.{w64}
 use mir.Val.{SFits}
 use mir.Facts.{toZ-ofZ, toZ-pos}
-use Rattle.signed.specs.Signed.{both}
 use Rattle.signed.proofs.Integers.{fits-abs, abs-neg, zero-minus}
 use Rattle.signed.proofs.Tests.{size-ends}
 use Rattle.signed.proofs.size_at_most.Statement.{statement}
@@ -45,13 +44,13 @@ returns c =
     let a = c .before .args .a in
     let n = c .before .args .n in
     simp (toZ-pos w64 (n-small (c .before)), toZ-ofZ (c .before .fits .a))
-    (sym (ap (λ (t : Bool). both t (leZ a (pos n))) (above c)) ∙ size-ends a n)
+    (sym (ap (λ (t : Bool). (t && leZ a (pos n))) (above c)) ∙ size-ends a n)
 
 returns-2 : tie.Need-returns-2
 returns-2 c =
     let a = c .before .args .a in
     let n = c .before .args .n in
-    sym (ap (λ (t : Bool). both t (leZ a (pos n))) (below c)) ∙ size-ends a n
+    sym (ap (λ (t : Bool). (t && leZ a (pos n))) (below c)) ∙ size-ends a n
 
 pub size-at-most-spec : {M : Type 1} → statement M
 size-at-most-spec = tie.close (tie.spec cast-limit sub-if1 returns returns-2)

@@ -1,6 +1,6 @@
 -- The list of the definition ends with no more codes. Assumes nothing.
+use mathlib.Core.Bool.{or-false}
 use borrow.Author.Needs.{needs}
-use Rattle.words.proofs.Tests.{either-idr}
 use Rattle.words.proofs.is_reading_code.Statement.{statement}
 use Rattle.words.proofs.is_reading_code.Tie as tie
 
@@ -8,7 +8,7 @@ is-plain-requires : tie.Need-is-plain-requires
 is-plain-requires c κs = search needs
 
 returns : tie.Need-returns
-returns c = simp (c .is-plain .ensures, either-idr)
+returns c = simp (c .is-plain .ensures, or-false)
 
 pub is-reading-code-spec : {M : Type 1} → statement M
 is-reading-code-spec = tie.close (tie.spec is-plain-requires returns)

@@ -10,7 +10,7 @@ use lib.Dec.{eqb, leb}
 use lib.ListN.{getD, drop, length-drop}
 use Rattle.aries.specs.Test.{within}
 use Rattle.aries.specs.Words.{digits, point}
-use Rattle.signed.proofs.Tests.{both-right}
+use Rattle.signed.proofs.Tests.{and-right}
 use Rattle.words.specs.Reading.{Held, meant, numberOf, number}
 use Rattle.words.proofs.Bytes.{test-inside}
 use Rattle.words.proofs.Numerals.{Bounded, held-bounded, below-power}
@@ -63,7 +63,7 @@ module _ (c : tie.After-read-digits2) where
   short = not-false (within 1 4 (whole start .count)) (c .before .if2 .left)
 
   four : whole start .count ≤ 4
-  four = leb-true (whole start .count) 4 (both-right (leb 1 (whole start .count)) (leb (whole start .count) 4) short)
+  four = leb-true (whole start .count) 4 (and-right (leb 1 (whole start .count)) (leb (whole start .count) 4) short)
 
   two : Bounded 2 0 (drop (past start + 1) (text start)) (meant (c .read-digits2 .result))
   two = held-bounded 2 (drop (past start + 1) (text start)) (c .read-digits2 .result) (c .read-digits2 .ensures)

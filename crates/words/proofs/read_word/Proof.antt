@@ -1,13 +1,12 @@
 -- The letter, the sign and the number are read in their order. Assumes nothing.
 use mathlib.Core.Path.{_≡_, refl, sym, ap, _∙_}
-use mathlib.Core.Bool.{true}
+use mathlib.Core.Bool.{true, cond}
 use mathlib.Core.List.{List}
 use Prim.Native.Nat.{ℕ, _+_, _≤_}
 use native.Mathlib.Omega.{arith}
 use borrow.Author.Needs.{needs}
 use borrow.Author.Tests.{not-true, not-false}
 use lib.ListN.{length, getD}
-use Rattle.aries.specs.Test.{pick}
 use Rattle.aries.specs.Text.{isCapital}
 use Rattle.aries.specs.Words.{isSign}
 use Rattle.words.proofs.Bytes.{test-inside, front-inside}
@@ -33,8 +32,8 @@ module _ (c : tie.After-front-size) where
   abbrev letter : tie.Else1
   letter = c .before .before
 
-  front-is : c .front-size .result ≡ pick (isSign (getD (text letter) (at letter + 1) 0)) 2 1
-  front-is = c .front-size .ensures ∙ ap (λ (b : ℕ). pick (isSign b) 2 1) (c .before .byte-at2 .ensures)
+  front-is : c .front-size .result ≡ cond (isSign (getD (text letter) (at letter + 1) 0)) 2 1
+  front-is = c .front-size .ensures ∙ ap (λ (b : ℕ). cond (isSign b) 2 1) (c .before .byte-at2 .ensures)
 
   from-inside : at letter + c .front-size .result ≤ length (text letter)
   from-inside = front-inside (text letter) (at letter) (c .front-size .result) (capital letter) front-is

@@ -1,12 +1,12 @@
 -- The axes are counted, and T where it may stand. Assumes nothing.
 use mathlib.Core.Path.{_≡_, _∙_}
+use mathlib.Core.Bool.{cond}
 use mathlib.Core.Logic.{⊎-elim}
 use native.Mathlib.Nat.{add-assoc, add-zero}
 use native.Mathlib.Omega.{arith}
 use borrow.Author.Needs.{needs}
 use Rattle.aries.specs.declared.word.Words.{Words}
 use Rattle.words.specs.Keeping.{wordsWith}
-use Rattle.aries.specs.Test.{pick}
 use Rattle.aries.specs.Text.{bytes}
 use Rattle.aries.specs.Blocks.{present}
 use Rattle.blocks.proofs.letters.axes_fit.Statement.{statement}
@@ -17,7 +17,7 @@ abbrev all-words : tie.Start → Words
 all-words s = wordsWith (s .args .forms .now) (s .args .numbers .now) (s .args .tally)
 
 -- T counts where it may stand
-free : (c : tie.Joined1) → c .if1 .may ≡ present (all-words (c .before .before .before)) (bytes (pick (c .before .before .before .args .tool) "T" ""))
+free : (c : tie.Joined1) → c .if1 .may ≡ present (all-words (c .before .before .before)) (bytes (cond (c .before .before .before .args .tool) "T" ""))
 unfolding bytes
 free c = ⊎-elim (λ u. simp (u .0 .taken) (u .1 ∙ c .before .one .ensures .0)) (λ u. simp (u .0 .left) (u .1)) (c .if1 .came)
 

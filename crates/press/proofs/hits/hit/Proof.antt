@@ -1,6 +1,6 @@
 -- Each way out is the definition's, by the tests on the way. Assumes nothing.
 use mathlib.Core.Path.{_≡_, refl, sym, _∙_}
-use mathlib.Core.Bool.{Bool, true, false}
+use mathlib.Core.Bool.{Bool, true, false, cond}
 use native.Mathlib.Omega.{arith}
 use lib.Dec.{ltb}
 use borrow.Author.Tests.{lt-ltb, le-ltb, not-true, not-false}
@@ -8,7 +8,6 @@ use Rattle.aries.specs.declared.point.Point.{Point}
 use Rattle.aries.specs.Places.{pointOf}
 use Rattle.aries.specs.Machine.{inRange}
 use Rattle.aries.specs.Judging.{near}
-use Rattle.aries.specs.Test.{pick}
 use Rattle.press.specs.declared.hits.Judged.the-variants.{Refused}
 use Rattle.press.proofs.Located.{located-at, located-far}
 use Rattle.press.specs.Hits.{judgedHit}
@@ -28,7 +27,7 @@ has-tool : (c : tie.After-covers) → ltb 0 (entry c .args .tool) ≡ true
 has-tool c = lt-ltb 0 (entry c .args .tool) (omega arith)
 
 -- 15 or 16, out of the range
-which : (n : Bool) → Refused (pick n 16 15) ≡ pick n (Refused 16) (Refused 15)
+which : (n : Bool) → Refused (cond n 16 15) ≡ cond n (Refused 16) (Refused 15)
 which true = refl
 which false = refl
 

@@ -1,6 +1,6 @@
 -- Past blank lines the next block is refused, or handed on once it has begun.
 use mathlib.Core.Path.{_≡_, refl, sym, ap, _∙_}
-use mathlib.Core.Bool.{true, not}
+use mathlib.Core.Bool.{true, not, _||_}
 use mathlib.Core.List.{List}
 use Prim.Native.Nat.{ℕ, _+_, _-_, _<_, _≤_}
 use native.Mathlib.Omega.{arith}
@@ -12,7 +12,6 @@ use Rattle.aries.specs.declared.macros.Macros.{Macros}
 use Rattle.aries.specs.declared.state.Progress.{Progress}
 use Rattle.aries.specs.Judging.{limits, mostBlocks}
 use Rattle.aries.specs.Hits.{andThen}
-use Rattle.aries.specs.Test.{either}
 use Rattle.aries.specs.Text.{lineFeed}
 use Rattle.text.proofs.Lines.{blanks-inside, next-stop, line-inside, line-goes-on}
 use Rattle.decode.proofs.Decoding.{decoded-instruction}
@@ -88,7 +87,7 @@ module _ (c : tie.Else2) where
   abbrev block : tie.Else1
   block = c .before .before .before
 
-  may : let a = entry (skipped block) .args in either (not (countedAt (a .text .now) (start (skipped block)))) (ltb (a .progress .blocks) mostBlocks) ≡ true
+  may : let a = entry (skipped block) .args in (not (countedAt (a .text .now) (start (skipped block))) || ltb (a .progress .blocks) mostBlocks) ≡ true
   may = not-false _ (c .if2 .left)
 
 returns-3 : tie.Need-returns-3

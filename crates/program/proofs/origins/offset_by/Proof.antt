@@ -1,11 +1,11 @@
 -- One axis after the other, each by whether it is written.
 use mathlib.Core.Path.{_≡_}
+use mathlib.Core.Bool.{cond}
 use mathlib.Core.Logic.{⊎-elim}
 use borrow.Author.Needs.{needs}
 use mir.Syntax.{w32}
 use mir.Val.{toZ, ofZ}
 use Rattle.aries.specs.Moves.{pointAt}
-use Rattle.aries.specs.Test.{pick}
 use Rattle.program.proofs.origins.offset_by.Statement.{statement}
 use Rattle.program.proofs.origins.offset_by.Tie as tie
 
@@ -17,7 +17,7 @@ module _ (c : tie.Start) where
   y-back = search needs
 
 -- the offset once X is set
-x-set : (c : tie.Joined1) → let a = c .before .before .before .args in c .if1 .offset ≡ pointAt (pick (a .axes .x .written) (a .axes .x .value) (a .before .x)) (a .before .y)
+x-set : (c : tie.Joined1) → let a = c .before .before .before .args in c .if1 .offset ≡ pointAt (cond (a .axes .x .written) (a .axes .x .value) (a .before .x)) (a .before .y)
 x-set c =
     let a = c .before .before .before in
     ⊎-elim (λ u. rw (u .2, u .0 .taken, x-back a)) (λ u. rw (u .1, u .0 .left)) (c .if1 .came)

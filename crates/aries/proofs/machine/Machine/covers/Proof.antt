@@ -1,11 +1,10 @@
 -- The two coordinates are tested one after the other. Assumes nothing.
 use mathlib.Core.Path.{_≡_, sym, _∙_}
-use mathlib.Core.Bool.{Bool, true, false}
+use mathlib.Core.Bool.{Bool, true, false, _&&_}
 use lib.Signed.{leZ}
 use borrow.Author.Needs.{needs}
 use mir.Syntax.{w32, w64}
 use mir.Val.{toZ, ofZ}
-use Rattle.aries.specs.Test.{both}
 use Rattle.aries.specs.Machine.{leastEnd, rightEnd, covers}
 use Rattle.aries.proofs.machine.Machine.covers.Statement.{statement}
 use Rattle.aries.proofs.machine.Machine.covers.Tie as tie
@@ -30,7 +29,7 @@ between-requires-2 c κs = search needs
 
 -- x lies in the range
 abbrev inside : tie.Start → Bool
-inside c = both (leZ leastEnd (c .args .p .x)) (leZ (c .args .p .x) (rightEnd (c .args .self)))
+inside c = leZ leastEnd (c .args .p .x) && leZ (c .args .p .x) (rightEnd (c .args .self))
 
 -- the test of x, of the number itself
 x-inside : (c : tie.After-between) → c .between .result ≡ inside (c .before .before .before .before)
