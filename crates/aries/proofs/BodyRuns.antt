@@ -32,16 +32,16 @@ use Rattle.aries.specs.Outcome.{Out, done, refused, _>>=_, need, given, 
 use Rattle.aries.specs.Text.{lines}
 use Rattle.aries.specs.Machine.{inRange}
 use Rattle.aries.specs.Blocks.{decode}
-use Rattle.aries.specs.Hits.{Made, still, leaving}
+use Rattle.aries.specs.Hits.{Made, noHit, mapAfter}
 use Rattle.aries.specs.Judging.{Judging, room, judged, near}
 use Rattle.aries.specs.Moves.{_⊕_, movedTo, waitingFor, inMode, choosing, remembering, measuring, dropping, axisTarget, target, withState, hitOf, punch, position, move, setPatternOrigin}
-use Rattle.aries.specs.Patterns.{hole, holes, reaches, punches, startAt, startOf, ending, pattern, runPattern, emptyMemory, recalled, recall}
+use Rattle.aries.specs.Patterns.{hitOffset, hitCount, reachIsNear, punches, startAt, startOf, ending, pattern, runPattern, emptyMemory, recalled, recall}
 use Rattle.aries.specs.Macros.{Body, Bodies, Calls, carryDirect, carry, isCounted, mayCome, begun, begin, runBlock, runLine, runLines, call, runBody}
 use Rattle.aries.specs.CopyRuns.{bytesOf}
 use Rattle.aries.proofs.Outcomes.{>>=-assoc}
 use Rattle.aries.proofs.Points.{+ℤ-swap, ⊕-swap}
 use Rattle.aries.proofs.Counts.{Counts, anotherBlock}
-use Rattle.aries.proofs.Follows.{movedWaiting, movedState, movedFrame, progress, Looser, alike, Follows, refusals, Beside, follows-still, follows-need, follows-then, follows-leaving, follows-counted, follows-hit}
+use Rattle.aries.proofs.Follows.{movedWaiting, movedState, movedFrame, progress, Looser, alike, Follows, refusals, Beside, follows-no-hit, follows-need, follows-then, follows-map, follows-counted, follows-hit}
 
 -- ---- Points named by a moved state are moved
 
@@ -115,7 +115,7 @@ module _ {E : Type 0} (j : Judging) (bounds : Bool) (v : Point) (job : Job) (w :
     moveTo t q g = do
       _ ← need (judged (j .bounds) (near q)) 15 line
       _ ← need (judged (j .bounds) (inRange (moved f) q)) 16 line
-      still (withState g (movedTo (dropping (choosing (g .state) t)) q))
+      noHit (withState g (movedTo (dropping (choosing (g .state) t)) q))
 
     move-follows : (a : Axes) (t : ℕ) → move j (moved f) line a t beside move free f line′ a t
     unfolding move moveTo
@@ -124,13 +124,13 @@ module _ {E : Type 0} (j : Judging) (bounds : Bool) (v : Point) (job : Job) (w :
         (sym (target-moves v job f s a))
         (follows-need 15 line line′ (w .nearness (target f s a))
         (follows-need 16 line line′ (w .coverage f (target f s a))
-        (follows-still (movedTo (dropping (choosing s t)) (target f s a)) n n′)))
+        (follows-no-hit (movedTo (dropping (choosing s t)) (target f s a)) n n′)))
 
     -- a waiting origin at a point
     waitAt : Point → Progress → Out (Made Progress)
     waitAt q g = do
       _ ← need (judged (j .bounds) (near q)) 15 line
-      still (withState g (waitingFor (g .state) (At q)))
+      noHit (withState g (waitingFor (g .state) (At q)))
 
     setPatternOrigin-follows : (a : Axes) → setPatternOrigin j (moved f) line a beside setPatternOrigin free f line′ a
     unfolding setPatternOrigin waitAt
@@ -138,35 +138,35 @@ module _ {E : Type 0} (j : Judging) (bounds : Bool) (v : Point) (job : Job) (w :
         subst (λ (q : Point). Follows E j v n n′ (waitAt q (progress (movedState v s) n)) (setPatternOrigin free f line′ a (progress s n′)))
         (sym (target-moves v job f s a))
         (follows-need 15 line line′ (w .nearness (target f s a))
-        (follows-still (waitingFor s (At (target f s a))) n n′))
+        (follows-no-hit (waitingFor s (At (target f s a))) n n′))
 
     -- ---- Patterns
 
     punches-follow : (p : Pattern) (start : Point) (k i : ℕ) → punches j (moved f) line p (start ⊕ v) k i beside punches free f line′ p start k i
     unfolding punches
-    punches-follow p start zero i s n n′ = follows-still s n n′
+    punches-follow p start zero i s n n′ = follows-no-hit s n n′
     punches-follow p start (suc k) i s n n′ =
         follows-then (punches j (moved f) line p (start ⊕ v) k (suc i)) (punches free f line′ p start k (suc i))
         (subst
-        (λ (q : Point). Follows E j v n n′ (punch j (moved f) line q (progress (movedState v s) n)) (punch free f line′ (start ⊕ hole p i) (progress s n′)))
-        (⊕-swap start (hole p i) v)
-        (punch-follows (start ⊕ hole p i) s n n′))
+        (λ (q : Point). Follows E j v n n′ (punch j (moved f) line q (progress (movedState v s) n)) (punch free f line′ (start ⊕ hitOffset p i) (progress s n′)))
+        (⊕-swap start (hitOffset p i) v)
+        (punch-follows (start ⊕ hitOffset p i) s n n′))
         (punches-follow p start k (suc i))
 
     ending-follows :
         (p : Pattern) (start : Point) {n n′ : Counts} {x y : Out (Made Progress)} → Follows E j v n n′ x y
-        → Follows E j v n n′ (leaving (ending p (start ⊕ v)) x) (leaving (ending p start) y)
-    ending-follows (Line pitch angle count) start r = follows-leaving (λ s. s) (λ s. s) r (λ s. refl)
-    ending-follows (Arc radius angle step count) start r = follows-leaving (λ s. s) (λ s. s) r (λ s. refl)
-    ending-follows (Circle radius angle clockwise count) start r = follows-leaving (λ s. movedTo s (start ⊕ v)) (λ s. movedTo s start) r (λ s. refl)
-    ending-follows (Grid vertical pitch steps) start r = follows-leaving (λ s. s) (λ s. s) r (λ s. refl)
+        → Follows E j v n n′ (mapAfter (ending p (start ⊕ v)) x) (mapAfter (ending p start) y)
+    ending-follows (Line pitch angle count) start r = follows-map (λ s. s) (λ s. s) r (λ s. refl)
+    ending-follows (Arc radius angle step count) start r = follows-map (λ s. s) (λ s. s) r (λ s. refl)
+    ending-follows (Circle radius angle clockwise count) start r = follows-map (λ s. movedTo s (start ⊕ v)) (λ s. movedTo s start) r (λ s. refl)
+    ending-follows (Grid vertical pitch steps) start r = follows-map (λ s. s) (λ s. s) r (λ s. refl)
 
     pattern-follows : (p : Pattern) → pattern j (moved f) line p beside pattern free f line′ p
     unfolding pattern
     pattern-follows p s n n′ =
         rw (start-moves v (s .waiting .origin) (s .current))
-        (follows-need 15 line line′ (w .reach (reaches p))
-        (ending-follows p (startOf s) (punches-follow p (startOf s) (holes p) 0 (movedTo (dropping s) (startOf s)) n n′)))
+        (follows-need 15 line line′ (w .reach (reachIsNear p))
+        (ending-follows p (startOf s) (punches-follow p (startOf s) (hitCount p) 0 (movedTo (dropping s) (startOf s)) n n′)))
 
     runPattern-follows : (p : Pattern) (t a : ℕ) → runPattern j (moved f) line p t a beside runPattern free f line′ p t a
     unfolding runPattern
@@ -185,14 +185,14 @@ module _ {E : Type 0} (j : Judging) (bounds : Bool) (v : Point) (job : Job) (w :
 
     carryDirect-follows : (d : Direct) → carryDirect j (moved f) line d beside carryDirect free f line′ d
     unfolding carryDirect
-    carryDirect-follows Lone s n n′ = follows-still (dropping s) n n′
+    carryDirect-follows Lone s n n′ = follows-no-hit (dropping s) n n′
     carryDirect-follows (Punch a t) s n n′ = position-follows a t s n n′
     carryDirect-follows (Move a t) s n n′ = move-follows a t s n n′
     carryDirect-follows (PatternOrigin a) s n n′ = setPatternOrigin-follows a s n n′
     carryDirect-follows (Run p t a) s n n′ = runPattern-follows p t a s n n′
     carryDirect-follows (Recall k) s n n′ = recall-follows k s n n′
-    carryDirect-follows (Nibble b) s n n′ = follows-still (inMode s b) n n′
-    carryDirect-follows Idle s n n′ = follows-still s n n′
+    carryDirect-follows (Nibble b) s n n′ = follows-no-hit (inMode s b) n n′
+    carryDirect-follows Idle s n n′ = follows-no-hit s n n′
 
   -- ---- Blocks and lines, for whatever calls do that follow each other
 
@@ -239,12 +239,12 @@ module _ {E : Type 0} (j : Judging) (bounds : Bool) (v : Point) (job : Job) (w :
 
     runLine-follows : (line line′ : ℕ) (l : List ℕ) → runLine j c (moved f) line l beside runLine free c′ f line′ l
     unfolding runBlock
-    runLine-follows line line′ [] s n n′ = follows-still s n n′
+    runLine-follows line line′ [] s n n′ = follows-no-hit s n n′
     runLine-follows line line′ (b ∷ bs) s n n′ = runBlock-follows line line′ (b ∷ bs) s n n′
 
     runLines-follow : (ls : List (List ℕ)) (line line′ : ℕ) → runLines j c (moved f) line ls beside runLines free c′ f line′ ls
     unfolding runLines
-    runLines-follow [] line line′ s n n′ = follows-still s n n′
+    runLines-follow [] line line′ s n n′ = follows-no-hit s n n′
     runLines-follow (l ∷ ls) line line′ s n n′ =
         follows-then (runLines j c (moved f) (suc line) ls) (runLines free c′ f (suc line′) ls)
         (runLine-follows line line′ l s n n′) (runLines-follow ls (suc line) (suc line′))

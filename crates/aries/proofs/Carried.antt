@@ -7,10 +7,10 @@ use Rattle.aries.specs.declared.state.Status.the-variants.{Passed, Refus
 use Rattle.aries.specs.declared.state.Outcome.{Outcome}
 use Rattle.aries.specs.declared.state.Progress.{Progress}
 use Rattle.aries.specs.Outcome.{Out, done, refused}
-use Rattle.aries.specs.Hits.{Made, still}
+use Rattle.aries.specs.Hits.{Made, noHit}
 use Rattle.aries.specs.Judging.{Judging, limits}
 use Rattle.aries.specs.Runs.{Lent, over, Carried}
-use Rattle.aries.proofs.Runs.{ran-refused, ran-made, ran-still}
+use Rattle.aries.proofs.Runs.{ran-refused, ran-made, ran-no-hit}
 
 module _ (f : Frame) (what : Judging → Progress → Out (Made Progress)) where
   -- a refusal on both sides
@@ -20,10 +20,10 @@ module _ (f : Frame) (what : Judging → Progress → Out (Made Progress)) where
   carried-refused e o = rw (e, o) ran-refused
 
   -- nothing is hit
-  pub carried-still :
+  pub carried-no-hit :
       {r : Outcome} {g left : Progress} {l : Lent} → r ≡ record { status = Passed; progress = left }
-      → left .hits ≡ g .hits → what (limits (f .job)) g ≡ still left → Carried r f l l g what
-  carried-still e h o = rw (e, o, ← h) ran-still
+      → left .hits ≡ g .hits → what (limits (f .job)) g ≡ noHit left → Carried r f l l g what
+  carried-no-hit e h o = rw (e, o, ← h) ran-no-hit
 
   -- hits and a progress that are made outright
   pub carried-made :

@@ -13,7 +13,7 @@ use Rattle.aries.specs.declared.state.State.{State}
 use Rattle.aries.specs.declared.state.Frame.{Frame}
 use Rattle.aries.specs.declared.state.Progress.{Progress}
 use Rattle.aries.specs.Outcome.{Out, done, refused, _>>=_, need}
-use Rattle.aries.specs.Hits.{Hit, Made, still, adding, andThen, leaving}
+use Rattle.aries.specs.Hits.{Hit, Made, noHit, adding, andThen, mapAfter}
 use Rattle.aries.specs.Judging.{Judging, room}
 use Rattle.aries.specs.Moves.{_⊕_}
 use Rattle.aries.specs.CopyRuns.{movedBy}
@@ -73,8 +73,8 @@ Beside E j v x y = (s : State) (n n′ : Counts) → Follows E j v n n′ (x (pr
 
 module _ {E : Type 0} {j : Judging} {v : Point} where
   -- nothing is hit or counted
-  pub follows-still : Beside E j v still still
-  follows-still s n n′ = moves {hs = []} {s = s} {m = n} {m′ = n′} nothing (up-nothing n) (up-nothing n′) (fit-nothing refl refl)
+  pub follows-no-hit : Beside E j v noHit noHit
+  follows-no-hit s n n′ = moves {hs = []} {s = s} {m = n} {m′ = n′} nothing (up-nothing n) (up-nothing n′) (fit-nothing refl refl)
 
   -- where x is refused, it need only be said why
   follows-refused :
@@ -121,13 +121,13 @@ module _ {E : Type 0} {j : Judging} {v : Point} where
   follows-then f g (stops {hs = hs} {s} {m′} d u′ k) r = follows-alone hs d u′ k (r s nothing m′)
 
   -- what is left, changed in the state only
-  pub follows-leaving :
+  pub follows-map :
       {n n′ : Counts} {x y : Out (Made Progress)} (f g : State → State) → Follows E j v n n′ x y → ((s : State) → f (movedState v s) ≡ movedState v (g s))
-      → Follows E j v n n′ (leaving (λ p. progress (f (p .state)) (countsOf p)) x) (leaving (λ p. progress (g (p .state)) (countsOf p)) y)
-  follows-leaving f g refusals r = refusals
-  follows-leaving {n} {n′} f g (moves {hs} {s} {m} {m′} d u u′ k) r =
+      → Follows E j v n n′ (mapAfter (λ p. progress (f (p .state)) (countsOf p)) x) (mapAfter (λ p. progress (g (p .state)) (countsOf p)) y)
+  follows-map f g refusals r = refusals
+  follows-map {n} {n′} f g (moves {hs} {s} {m} {m′} d u u′ k) r =
       subst (λ (t : State). Follows E j v n n′ (done (made (map (movedBy v) hs) t m)) (done (made hs (g s) m′))) (sym (r s)) (moves d u u′ k)
-  follows-leaving f g (stops d u′ k) r = stops d u′ k
+  follows-map f g (stops d u′ k) r = stops d u′ k
 
   -- a block begins, if there is room: one more is counted
   pub follows-counted :

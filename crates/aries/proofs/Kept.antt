@@ -18,7 +18,7 @@ use Rattle.aries.specs.declared.setup.Setup.{Setup}
 use Rattle.aries.specs.declared.setup.Program.{Program}
 use Rattle.aries.specs.declared.state.Progress.{Progress}
 use Rattle.aries.specs.Outcome.{Out, done, refused, _>>=_, need}
-use Rattle.aries.specs.Hits.{Made, still, andThen, leaving}
+use Rattle.aries.specs.Hits.{Made, noHit, andThen, mapAfter}
 use Rattle.aries.specs.Judging.{Judging, judged, near}
 use Rattle.aries.specs.Letters.{letterV}
 use Rattle.aries.specs.Text.{startsWith}
@@ -46,9 +46,9 @@ module _ (P : Setup → Type 0) where
   keeps-bind (refused number line) f h = keeps-refused number line
   keeps-bind (done a) f h = h a
 
-  keeps-leaving : {A : Type 0} (f : A → Program) (x : Out (Made A)) → ((a : A) → P (f a .setup)) → Keeps P (leaving f x)
-  keeps-leaving f (refused number line) h = keeps-refused number line
-  keeps-leaving f (done m) h = keeps-done _ (h (m .after))
+  keeps-map : {A : Type 0} (f : A → Program) (x : Out (Made A)) → ((a : A) → P (f a .setup)) → Keeps P (mapAfter f x)
+  keeps-map f (refused number line) h = keeps-refused number line
+  keeps-map f (done m) h = keeps-done _ (h (m .after))
 
   pub keeps-then :
       (x : Out (Made Program)) (f : Program → Out (Made Program)) → Keeps P x → ((p : Program) → P (p .setup) → Keeps P (f p))
@@ -83,9 +83,9 @@ module _ (P : Setup → Type 0) where
       carryOutside-keeps Outside.End = keeps-done _ o
       carryOutside-keeps (Outside.Offset a) = origin-settled j line (p .setup .sheet) (offsetBy a (p .setup .offset)) p o
       carryOutside-keeps (Outside.Layout l) = origin-settled j line (LaidOut l) (p .setup .offset) p o
-      carryOutside-keeps (Outside.Open n) = keeps-leaving (withStore p) (openBody j text n next line ls (p .setup) (withStored (p .macros) (p .progress))) (λ st. o)
+      carryOutside-keeps (Outside.Open n) = keeps-map (withStore p) (openBody j text n next line ls (p .setup) (withStored (p .macros) (p .progress))) (λ st. o)
       carryOutside-keeps (Outside.Close n) = keeps-refused 9 line
-      carryOutside-keeps (Outside.Copy c) = keeps-leaving (withProgress p) (copyPart j (bodiesOf text (p .macros)) (p .setup) line c (p .progress)) (λ g. o)
+      carryOutside-keeps (Outside.Copy c) = keeps-map (withProgress p) (copyPart j (bodiesOf text (p .macros)) (p .setup) line c (p .progress)) (λ g. o)
 
       -- as in a body
       abbrev inBody : Block → Out (Made Progress)
@@ -93,8 +93,8 @@ module _ (P : Setup → Type 0) where
 
       carryOut-keeps : (b : Block) → Keeps P (carryOut j text next line ls b p)
       unfolding carryOut
-      carryOut-keeps (Block.Direct d) = keeps-leaving (withProgress p) (inBody (Block.Direct d)) (λ g. o)
-      carryOut-keeps (Block.Call n) = keeps-leaving (withProgress p) (inBody (Block.Call n)) (λ g. o)
+      carryOut-keeps (Block.Direct d) = keeps-map (withProgress p) (inBody (Block.Direct d)) (λ g. o)
+      carryOut-keeps (Block.Call n) = keeps-map (withProgress p) (inBody (Block.Call n)) (λ g. o)
       carryOut-keeps (Block.Outside b) = carryOutside-keeps b
 
     -- ---- Lines
@@ -102,7 +102,7 @@ module _ (P : Setup → Type 0) where
     passOver-keeps : (l : List ℕ) (p : Program) → P (p .setup) → Keeps P (passOver l p)
     passOver-keeps l p o = go (startsWith letterV l)
       where
-        go : (t : Bool) → Keeps P (elim t as (λ _. Out (Made Program)) [ true ↦ still (atStage Running p) | false ↦ still p ])
+        go : (t : Bool) → Keeps P (elim t as (λ _. Out (Made Program)) [ true ↦ noHit (atStage Running p) | false ↦ noHit p ])
         go true = keeps-done _ o
         go false = keeps-done _ o
 

@@ -28,6 +28,8 @@ pub mod Refusals
 pub mod Advanced
 pub mod Carried
 pub mod Judging
+pub mod Calls
 pub mod Named
 pub mod Runs
 pub mod Storage
+pub mod WidePoints

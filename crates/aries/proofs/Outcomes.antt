@@ -1,10 +1,10 @@
 -- Laws of what is accepted: a refusal is none, and what two things one after the other say of each.
 use mathlib.Core.Path.{_≡_, refl, sym, ap, _∙_, subst}
 use mathlib.Core.Bool.{Bool, true, false}
-use mathlib.Core.List.{_++_}
+use mathlib.Core.List.{List, _++_, append-assoc}
 use Prim.Native.Nat.{ℕ}
 use Rattle.aries.specs.Outcome.{Out, done, refused, _>>=_, need}
-use Rattle.aries.specs.Hits.{Made, adding, andThen}
+use Rattle.aries.specs.Hits.{Hit, Made, adding, andThen}
 
 abbrev IsRefused : {A : Type 0} → Out A → Type 0
 IsRefused (refused number line) = Unit {0}
@@ -60,3 +60,12 @@ then-accepted {A} (done k) f m e = go (f (k .after)) refl e
 -- and back: two accepted ones make an accepted one
 pub accepted-then : {A : Type 0} (x : Out (Made A)) (f : A → Out (Made A)) (k r : Made A) → x ≡ done k → f (k .after) ≡ done r → andThen x f ≡ done (record { hits = k .hits ++ r .hits; after = r .after })
 accepted-then x f k r e g = ap (λ (y : Out (Made _)). andThen y f) e ∙ ap (adding (k .hits)) g
+
+-- hits, and then one thing after the other
+pub adding-then : {A : Type 0} (hs : List Hit) (x : Out (Made A)) (k : A → Out (Made A)) → adding hs (andThen x k) ≡ andThen (adding hs x) k
+adding-then hs (refused number line) k = refl
+adding-then {A} hs (done m) k = go (k (m .after))
+  where
+    go : (y : Out (Made A)) → adding hs (adding (m .hits) y) ≡ adding (hs ++ m .hits) y
+    go (refused number line) = refl
+    go (done n) = ap (λ (l : List Hit). done (record { hits = l; after = n .after })) (sym (append-assoc hs (m .hits) (n .hits)))

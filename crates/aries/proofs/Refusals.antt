@@ -31,7 +31,7 @@ use Rattle.aries.specs.Test.{within}
 use Rattle.aries.specs.Outcome.{Out, done, refused, _>>=_, need}
 use Rattle.aries.specs.Letters.{letterV}
 use Rattle.aries.specs.Text.{longest, startsWith, strayLine, withoutSpaces, lines}
-use Rattle.aries.specs.Hits.{Hit, Made, still}
+use Rattle.aries.specs.Hits.{Hit, Made, noHit}
 use Rattle.aries.specs.Judging.{Judging, judged, near, limits, lending}
 use Rattle.aries.specs.Machine.{named}
 use Rattle.aries.specs.Moves.{_⊕_}
@@ -42,7 +42,7 @@ use Rattle.aries.specs.Program.{withProgress, withStore, atStage, freshP
 use Rattle.aries.specs.Refusals.{RefusalOf, RefusalsNamed}
 use Rattle.aries.proofs.LineCounts.{lines-some, lines-take, lines-dense, lines-next, stray-inside}
 use Rattle.aries.proofs.Storage.{found-fresh, storing-out}
-use Rattle.aries.proofs.Sound.{LineOf, Answered, Any, Each, Proper, Sound, BodyOf, BodiesOf, sound-refused, sound-done, sound-bind, sound-need, sound-given, sound-then, sound-leaving, begin-proper, carry-sound, call-sound, runBody-sound, copyPart-sound}
+use Rattle.aries.proofs.Sound.{LineOf, Answered, Any, Each, Proper, Sound, BodyOf, BodiesOf, sound-refused, sound-done, sound-bind, sound-need, sound-given, sound-then, sound-map, begin-proper, carry-sound, call-sound, runBody-sound, copyPart-sound}
 
 -- ---- What is stored
 
@@ -93,7 +93,7 @@ module _ (last : ℕ) (text : List ℕ) where
   unfolding firstRun
   firstRun-sound j m n b s g st k = go (runsFirst n (s .sheet))
     where
-      go : (t : Bool) → Sound {A = Progress} last Any (elim t [ true ↦ runBody j (bodiesOf text m) (mostCalls - 1) (ordinaryFrame s) b g | false ↦ still g ])
+      go : (t : Bool) → Sound {A = Progress} last Any (elim t [ true ↦ runBody j (bodiesOf text m) (mostCalls - 1) (ordinaryFrame s) b g | false ↦ noHit g ])
       go true = runBody-sound j (bodiesOf text m) (st .stored) (mostCalls - 1) (ordinaryFrame s) b g k
       go false = sound-done tt
 
@@ -113,7 +113,7 @@ module _ (last : ℕ) (text : List ℕ) where
         sound-given Any (bodySize n ls) 9 refl h (any (bodySize n ls)) λ size _.
         let b = bodyFrom-of start size a in
         sound-need (leb (characters (storedAt (st .macros) n start size line)) mostCharacters) 12 refl h
-        (sound-leaving (withStored (storedAt (st .macros) n start size line)) _
+        (sound-map (withStored (storedAt (st .macros) n start size line)) _
         (firstRun-sound j (st .macros) n (bodyFrom text start size line) s (st .progress) k b)
         (λ g _. storing-of (st .macros) n start (start + size) (suc line) k b))
       where
@@ -144,7 +144,7 @@ module _ (last : ℕ) (text : List ℕ) where
   passOver-sound : (l : List ℕ) (p : Program) → Held p → Sound last Held (passOver l p)
   passOver-sound l p k = go (startsWith letterV l)
     where
-      go : (t : Bool) → Sound last Held (elim t as (λ _. Out (Made Program)) [ true ↦ still (atStage Running p) | false ↦ still p ])
+      go : (t : Bool) → Sound last Held (elim t as (λ _. Out (Made Program)) [ true ↦ noHit (atStage Running p) | false ↦ noHit p ])
       go true = sound-done k
       go false = sound-done k
 
@@ -159,12 +159,12 @@ module _ (last : ℕ) (text : List ℕ) where
     carryOutside-sound (Outside.Offset a) p k = settled-sound j line h (p .setup .sheet) (offsetBy a (p .setup .offset)) (p .setup) p k
     carryOutside-sound (Outside.Layout l) p k = settled-sound j line h (LaidOut l) (p .setup .offset) (p .setup) p k
     carryOutside-sound (Outside.Open n) p k =
-        sound-leaving (withStore p) _
+        sound-map (withStore p) _
         (openBody-sound j line h n next ls (p .setup) (withStored (p .macros) (p .progress)) k (rw rest room))
         (λ st k′. k′)
     carryOutside-sound (Outside.Close n) p k = sound-refused refl h
     carryOutside-sound (Outside.Copy c) p k =
-        sound-leaving (withProgress p) _ (copyPart-sound j (bodiesOf text (p .macros)) (k .stored) line h (p .setup) c (p .progress)) (λ g _. k)
+        sound-map (withProgress p) _ (copyPart-sound j (bodiesOf text (p .macros)) (k .stored) line h (p .setup) c (p .progress)) (λ g _. k)
 
     -- as in a body
     inBody-sound :
@@ -174,8 +174,8 @@ module _ (last : ℕ) (text : List ℕ) where
 
     carryOut-sound : (b : Block) (p : Program) → Held p → Sound last Held (carryOut j text next line ls b p)
     unfolding carryOut
-    carryOut-sound (Block.Direct d) p k = sound-leaving (withProgress p) _ (inBody-sound (Block.Direct d) p k) (λ g _. k)
-    carryOut-sound (Block.Call n) p k = sound-leaving (withProgress p) _ (inBody-sound (Block.Call n) p k) (λ g _. k)
+    carryOut-sound (Block.Direct d) p k = sound-map (withProgress p) _ (inBody-sound (Block.Direct d) p k) (λ g _. k)
+    carryOut-sound (Block.Call n) p k = sound-map (withProgress p) _ (inBody-sound (Block.Call n) p k) (λ g _. k)
     carryOut-sound (Block.Outside b) p k = carryOutside-sound b p k
 
     -- ---- Lines

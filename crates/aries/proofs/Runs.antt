@@ -12,7 +12,7 @@ use Rattle.aries.specs.declared.job.Job.{Job}
 use Rattle.aries.specs.declared.state.Status.{Status}
 use Rattle.aries.specs.declared.state.Status.the-variants.{Passed, Refused}
 use Rattle.aries.specs.Outcome.{Out, done, refused}
-use Rattle.aries.specs.Hits.{Hit, Made, still, adding, andThen, leaving}
+use Rattle.aries.specs.Hits.{Hit, Made, noHit, adding, andThen, mapAfter}
 use Rattle.aries.specs.Runs.{statusOf, Lent, lent, write, put, over, Ran}
 use Rattle.aries.proofs.Outcomes.{done-injective, refused≢done}
 
@@ -80,9 +80,9 @@ module _ {A : Type 0} {hitsOf : A → ℕ} {job : Job} where
       }
 
   -- nothing is hit
-  pub ran-still : {a : A} {l : Lent} → Ran hitsOf job Passed a l l (hitsOf a) (still a)
+  pub ran-no-hit : {a : A} {l : Lent} → Ran hitsOf job Passed a l l (hitsOf a) (noHit a)
   unfolding over
-  ran-still {a} {l} = ran-made {m = record { hits = []; after = a }} refl (omega arith) (λ h. h)
+  ran-no-hit {a} {l} = ran-made {m = record { hits = []; after = a }} refl (omega arith) (λ h. h)
 
   -- ---- One thing after the other
 
@@ -137,12 +137,12 @@ module _ {A : Type 0} {hitsOf : A → ℕ} {job : Job} where
 
 -- ---- The result seen as part of something larger
 
-pub ran-leaving :
+pub ran-map :
     {A B : Type 0} {hitsA : A → ℕ} {hitsB : B → ℕ} {job : Job} {status : Status} {left : A} {before after : Lent} {k : ℕ} (f : A → B)
     → ((a : A) → hitsB (f a) ≡ hitsA a) → (out : Out (Made A))
-    → Ran hitsA job status left before after k out → Ran hitsB job status (f left) before after k (leaving f out)
-ran-leaving f same (refused number line) h = rw (h .same-status) ran-refused
-ran-leaving {hitsA = hitsA} {hitsB} {job} {left = left} f same (done m) h =
+    → Ran hitsA job status left before after k out → Ran hitsB job status (f left) before after k (mapAfter f out)
+ran-map f same (refused number line) h = rw (h .same-status) ran-refused
+ran-map {hitsA = hitsA} {hitsB} {job} {left = left} f same (done m) h =
     rw (h .same-status, h .same-left m refl)
     (ran-made {m = record { hits = m .hits; after = f (m .after) }} (h .written m refl)
     (here ∙ h .counted m refl)
@@ -152,8 +152,8 @@ ran-leaving {hitsA = hitsA} {hitsB} {job} {left = left} f same (done m) h =
     here = same (m .after) ∙ sym (ap hitsA (h .same-left m refl))
 
 -- nothing done and then the rest is the rest
-pub still-then : {A : Type 0} (a : A) (f : A → Out (Made A)) → andThen (still a) f ≡ f a
-still-then {A} a f = go (f a)
+pub no-hit-then : {A : Type 0} (a : A) (f : A → Out (Made A)) → andThen (noHit a) f ≡ f a
+no-hit-then {A} a f = go (f a)
   where
     go : (out : Out (Made A)) → adding [] out ≡ out
     go (done m) = refl
@@ -188,5 +188,29 @@ module _ {A : Type 0} {hitsOf : A → ℕ} {job : Job} {l₀ : Lent} {k₀ : ℕ
   leads-out {left = left} {after = after} {number = number} {line} rest ran lead = lead (Refused number line) left after (ran-stop rest ran)
 
   -- nothing is left
-  pub leads-end : {now : A} {l : Lent} → Leads hitsOf job l (hitsOf now) (still now) l₀ k₀ whole → Ran hitsOf job Passed now l₀ l k₀ whole
-  leads-end {now} {l} lead = lead Passed now l ran-still
+  pub leads-end : {now : A} {l : Lent} → Leads hitsOf job l (hitsOf now) (noHit now) l₀ k₀ whole → Ran hitsOf job Passed now l₀ l k₀ whole
+  leads-end {now} {l} lead = lead Passed now l ran-no-hit
+
+-- ---- A status that is told
+
+pub status-as :
+    {A : Type 0} {hitsOf : A → ℕ} {job : Job} {status : Status} {left : A} {before after : Lent} {k : ℕ} {out : Out (Made A)} {number line : ℕ} → status ≡ Refused number line
+    → Ran hitsOf job status left before after k out → Ran hitsOf job (Refused number line) left before after k out
+status-as e ran = rw e at ran
+
+pub passed-as :
+    {A : Type 0} {hitsOf : A → ℕ} {job : Job} {status : Status} {left : A} {before after : Lent} {k : ℕ} {out : Out (Made A)} → status ≡ Passed
+    → Ran hitsOf job status left before after k out → Ran hitsOf job Passed left before after k out
+passed-as e ran = rw e at ran
+
+-- the refusal that is told
+pub refused-out : {A : Type 0} (out : Out (Made A)) {number line : ℕ} → Refused number line ≡ statusOf out → out ≡ refused number line
+refused-out (refused n k) {number} {line} e = let a : number ≡ n = cc in let b : line ≡ k = cc in rw (a, b)
+refused-out (done m) e = let z : _≡_ {A = ℕ} 0 1 = cc in absurd (omega arith)
+
+-- a refusal is one, whatever its result would be seen as
+pub refused-map :
+    {A : Type 0} {hitsOf : A → ℕ} {job : Job} {left : A} {before after : Lent} {k number line : ℕ} (f : A → A) (out : Out (Made A))
+    → Ran hitsOf job (Refused number line) left before after k out → Ran hitsOf job (Refused number line) left before after k (mapAfter f out)
+refused-map f (refused number line) h = rw (h .same-status) ran-refused
+refused-map f (done m) h = let z : _≡_ {A = ℕ} 0 1 = cc (h .same-status) in absurd (omega arith)

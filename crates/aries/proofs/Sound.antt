@@ -31,11 +31,11 @@ use Rattle.aries.specs.Outcome.{Out, done, refused, _>>=_, need, given, 
 use Rattle.aries.specs.Text.{lines}
 use Rattle.aries.specs.Words.{words}
 use Rattle.aries.specs.Blocks.{kindOf, isListed, isRanged, instructionOf, decodeWords, decoded, decode}
-use Rattle.aries.specs.Hits.{Made, adding, andThen, leaving}
+use Rattle.aries.specs.Hits.{Made, adding, andThen, mapAfter}
 use Rattle.aries.specs.Judging.{Judging, room, judged, near}
 use Rattle.aries.specs.Machine.{inRange}
 use Rattle.aries.specs.Moves.{_⊕_, target, hitting, punch, position, move, setPatternOrigin, choosing, dropping, remembering, withState}
-use Rattle.aries.specs.Patterns.{hole, holes, reaches, punches, startOf, starting, ending, pattern, runPattern, emptyMemory, recalled, recall}
+use Rattle.aries.specs.Patterns.{hitOffset, hitCount, reachIsNear, punches, startOf, starting, ending, pattern, runPattern, emptyMemory, recalled, recall}
 use Rattle.aries.specs.Macros.{Body, Bodies, Calls, carryDirect, carry, mayCome, begunBy, begin, runBlock, runLine, runLines, call, mostCalls, runBody}
 use Rattle.aries.specs.Setup.{ordinaryFrame, frameAt}
 use Rattle.aries.specs.Layouts.{copyStart, copy, copyAll, copyCount, copyPlace, partOf, copyOver, copyPart}
@@ -125,11 +125,11 @@ module _ {last : ℕ} where
   sound-then (done m) f h k = sound-adding m (f (m .after)) (k (m .after) (h .answered))
   sound-then (refused number line) f h k = record { answered = h .answered }
 
-  pub sound-leaving :
+  pub sound-map :
       {A B : Type 0} {P : A → Type 0} {Q : B → Type 0} (f : A → B) (x : Out (Made A)) → Sound last P x → ((a : A) → P a → Q (f a))
-      → Sound last Q (leaving f x)
-  sound-leaving f (done m) h k = record { answered = k (m .after) (h .answered) }
-  sound-leaving f (refused number line) h k = record { answered = h .answered }
+      → Sound last Q (mapAfter f x)
+  sound-map f (done m) h k = record { answered = k (m .after) (h .answered) }
+  sound-map f (refused number line) h k = record { answered = h .answered }
 
   -- ---- A direct block, in a line of the text
 
@@ -157,13 +157,13 @@ module _ {last : ℕ} where
     unfolding punches
     punches-sound p start zero k g = sound-done tt
     punches-sound p start (suc n) k g =
-        sound-then (punch j f line (start ⊕ hole p k) g) _ (punch-sound (start ⊕ hole p k) g) (λ a _. punches-sound p start n (suc k) a)
+        sound-then (punch j f line (start ⊕ hitOffset p k) g) _ (punch-sound (start ⊕ hitOffset p k) g) (λ a _. punches-sound p start n (suc k) a)
 
     pattern-sound : (p : Pattern) (g : Progress) → Sound last Any (pattern j f line p g)
     unfolding pattern
     pattern-sound p g =
-        sound-need (judged (j .bounds) (reaches p)) 15 refl h
-        (sound-leaving (ending p (startOf (g .state))) _ (punches-sound p (startOf (g .state)) (holes p) 0 (starting g)) (λ a _. tt))
+        sound-need (judged (j .bounds) (reachIsNear p)) 15 refl h
+        (sound-map (ending p (startOf (g .state))) _ (punches-sound p (startOf (g .state)) (hitCount p) 0 (starting g)) (λ a _. tt))
 
     recalled-sound : (s : Stored) (g : Progress) → Sound last Any (recalled j f line s g)
     recalled-sound Empty g = sound-refused refl h

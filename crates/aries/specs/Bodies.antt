@@ -20,7 +20,7 @@ use Rattle.aries.specs.Outcome.{Out, done, refused, _>>=_, need, given, 
 use Rattle.aries.specs.Letters.{letterU, letterV}
 use Rattle.aries.specs.Text.{startsWith}
 use Rattle.aries.specs.Blocks.{decode}
-use Rattle.aries.specs.Hits.{Made, still, leaving}
+use Rattle.aries.specs.Hits.{Made, noHit, mapAfter}
 use Rattle.aries.specs.Judging.{Judging}
 use Rattle.aries.specs.Macros.{Body, part, bodiesOf, storing, characters, mostCalls, runBody}
 use Rattle.aries.specs.Setup.{ordinaryFrame}
@@ -84,7 +84,7 @@ unfoldable pub firstRun : Judging → List ℕ → Macros → ℕ → Body → S
 unfolding runBody bodiesOf
 firstRun j text m n b s g = elim (runsFirst n (s .sheet)) [
   | true ↦ runBody j (bodiesOf text m) (mostCalls - 1) (ordinaryFrame s) b g
-  | false ↦ still g
+  | false ↦ noHit g
 ]
 
 -- the body of a U line in a line with a number: so many bytes from a place of the text on
@@ -109,4 +109,4 @@ unfolding bodySize firstRun characters part
 openBody j text n start line ls s st = do
   size ← given (bodySize n ls) 9 line
   _ ← need (leb (characters (storedAt (st .macros) n start size line)) mostCharacters) 12 line
-  leaving (withStored (storedAt (st .macros) n start size line)) (firstRun j text (st .macros) n (bodyFrom text start size line) s (st .progress))
+  mapAfter (withStored (storedAt (st .macros) n start size line)) (firstRun j text (st .macros) n (bodyFrom text start size line) s (st .progress))

@@ -19,7 +19,7 @@ use Rattle.aries.specs.declared.setup.Stage.the-variants.{Running}
 use Rattle.aries.specs.declared.setup.Program.{Program}
 use Rattle.aries.specs.Outcome.{done, passes}
 use Rattle.aries.specs.Text.{lines}
-use Rattle.aries.specs.Hits.{Made, leaving}
+use Rattle.aries.specs.Hits.{Made, mapAfter}
 use Rattle.aries.specs.Judging.{limits}
 use Rattle.aries.specs.Blocks.{decode}
 use Rattle.aries.specs.Moves.{_⊕_}
@@ -48,7 +48,7 @@ CopyLinesRun =
     (text : List ℕ) (next line : ℕ) (l : List ℕ) (ls : List (List ℕ)) (p : Program) (i : Instruction) (k : Copies)
     → p .stage ≡ Running → mayCome (limits (p .setup .job)) l (p .progress) ≡ true → decode l ≡ passes i → i .block ≡ Outside (Copy k)
     → runLineOutside (limits (p .setup .job)) text next line l ls p
-    ≡ leaving (withProgress p) (run (k .vertical) (circumstances text line k (withProgress p (begun (isCounted l) (i .measure) (p .progress)))))
+    ≡ mapAfter (withProgress p) (run (k .vertical) (circumstances text line k (withProgress p (begun (isCounted l) (i .measure) (p .progress)))))
 
 -- ---- The origin
 

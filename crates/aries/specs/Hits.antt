@@ -30,8 +30,8 @@ pub record Made (A : Type 0) : Type 0 where
   pub after : A
 
 -- nothing is hit
-abbrev pub still : {A : Type 0} → A → Out (Made A)
-still a = done (record { hits = []; after = a })
+abbrev pub noHit : {A : Type 0} → A → Out (Made A)
+noHit a = done (record { hits = []; after = a })
 
 -- hits, and then what is made
 abbrev pub adding : {A : Type 0} → List Hit → Out (Made A) → Out (Made A)
@@ -44,6 +44,6 @@ andThen (refused number line) f = refused number line
 andThen (done m) f = adding (m .hits) (f (m .after))
 
 -- the same hits, and what is left seen as part of something larger
-abbrev pub leaving : {A B : Type 0} → (A → B) → Out (Made A) → Out (Made B)
-leaving f (refused number line) = refused number line
-leaving f (done m) = done (record { hits = m .hits; after = f (m .after) })
+abbrev pub mapAfter : {A B : Type 0} → (A → B) → Out (Made A) → Out (Made B)
+mapAfter f (refused number line) = refused number line
+mapAfter f (done m) = done (record { hits = m .hits; after = f (m .after) })

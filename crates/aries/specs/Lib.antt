@@ -6,7 +6,7 @@ pub mod Letters
 pub mod Words
 pub mod Blocks
 pub mod Judging
-pub mod Places
+pub mod WidePoints
 pub mod Machine
 pub mod Hits
 pub mod Moves

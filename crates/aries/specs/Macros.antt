@@ -20,7 +20,7 @@ use Rattle.aries.specs.Outcome.{Out, done, refused, _>>=_, need, given, 
 use Rattle.aries.specs.Letters.{letterV}
 use Rattle.aries.specs.Text.{lines, startsWith}
 use Rattle.aries.specs.Blocks.{decode}
-use Rattle.aries.specs.Hits.{Made, still, andThen}
+use Rattle.aries.specs.Hits.{Made, noHit, andThen}
 use Rattle.aries.specs.Judging.{Judging, room}
 use Rattle.aries.specs.Moves.{measuring, dropping, inMode, withState, position, move, setPatternOrigin}
 use Rattle.aries.specs.Patterns.{runPattern, recall}
@@ -78,14 +78,14 @@ characters m = sizes (m .start) (m .end)
 -- one direct block that has been decoded and counted
 unfoldable pub carryDirect : Judging → Frame → ℕ → Direct → Progress → Out (Made Progress)
 unfolding position move setPatternOrigin runPattern recall
-carryDirect j f line Lone g = still (withState g (dropping (g .state)))
+carryDirect j f line Lone g = noHit (withState g (dropping (g .state)))
 carryDirect j f line (Punch a t) g = position j f line a t g
 carryDirect j f line (Move a t) g = move j f line a t g
 carryDirect j f line (PatternOrigin a) g = setPatternOrigin j f line a g
 carryDirect j f line (Run p t a) g = runPattern j f line p t a g
 carryDirect j f line (Recall n) g = recall j f line n g
-carryDirect j f line (Nibble b) g = still (withState g (inMode (g .state) b))
-carryDirect j f line Idle g = still g
+carryDirect j f line (Nibble b) g = noHit (withState g (inMode (g .state) b))
+carryDirect j f line Idle g = noHit g
 
 -- what a call of a macro does, by the frame, its number and the line of the call
 abbrev pub Calls : Type 0
@@ -139,13 +139,13 @@ runBlock j call f line l g = do
 
 -- a blank line does nothing
 abbrev pub runLine : Judging → Calls → Frame → ℕ → List ℕ → Progress → Out (Made Progress)
-runLine j call f line [] g = still g
+runLine j call f line [] g = noHit g
 runLine j call f line (b ∷ bs) g = runBlock j call f line (b ∷ bs) g
 
 -- lines in turn, the first with a number
 unfoldable pub runLines : Judging → Calls → Frame → ℕ → List (List ℕ) → Progress → Out (Made Progress)
 unfolding runBlock
-runLines j call f line [] g = still g
+runLines j call f line [] g = noHit g
 runLines j call f line (l ∷ ls) g = andThen (runLine j call f line l g) (runLines j call f (suc line) ls)
 
 -- ---- Calls

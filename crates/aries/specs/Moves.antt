@@ -21,7 +21,7 @@ use Rattle.aries.specs.declared.state.Frame.{Frame}
 use Rattle.aries.specs.declared.state.Progress.{Progress}
 use Rattle.aries.specs.Outcome.{Out, done, refused, _>>=_, need}
 use Rattle.aries.specs.Machine.{covers, inRange}
-use Rattle.aries.specs.Hits.{Hit, Made, still}
+use Rattle.aries.specs.Hits.{Hit, Made, noHit}
 use Rattle.aries.specs.Judging.{Judging, room, judged, near}
 
 abbrev pub pointAt : ℤ → ℤ → Point
@@ -172,11 +172,11 @@ unfolding near covers
 move j f line a t g = do
   _ ← need (judged (j .bounds) (near (target f (g .state) a))) 15 line
   _ ← need (judged (j .bounds) (inRange f (target f (g .state) a))) 16 line
-  still (withState g (movedTo (dropping (choosing (g .state) t)) (target f (g .state) a)))
+  noHit (withState g (movedTo (dropping (choosing (g .state) t)) (target f (g .state) a)))
 
 -- G72 sets the waiting pattern origin; the current point stays.
 unfoldable pub setPatternOrigin : Judging → Frame → ℕ → Axes → Progress → Out (Made Progress)
 unfolding near
 setPatternOrigin j f line a g = do
   _ ← need (judged (j .bounds) (near (target f (g .state) a))) 15 line
-  still (withState g (waitingFor (g .state) (At (target f (g .state) a))))
+  noHit (withState g (waitingFor (g .state) (At (target f (g .state) a))))

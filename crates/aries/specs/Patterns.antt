@@ -19,7 +19,7 @@ use Rattle.aries.specs.declared.state.State.{State}
 use Rattle.aries.specs.declared.state.Frame.{Frame}
 use Rattle.aries.specs.declared.state.Progress.{Progress}
 use Rattle.aries.specs.Outcome.{Out, done, refused, _>>=_, need}
-use Rattle.aries.specs.Hits.{Made, still, andThen, leaving}
+use Rattle.aries.specs.Hits.{Made, noHit, andThen, mapAfter}
 use Rattle.aries.specs.Judging.{Judging, judged, isNear}
 use Rattle.aries.specs.Lanes.{lane, along}
 use Rattle.aries.specs.Moves.{pointAt, _⊕_, movedTo, dropping, choosing, remembering, withState, punch}
@@ -47,34 +47,34 @@ gridOffset vertical pitch steps m =
     (pointAt (pos (along (steps .x) m) *ℤ pitch .x) (pos (lane (steps .x) m) *ℤ pitch .y))
 
 -- the offset of hit k, counted from 0. The start of a grid is left out.
-unfoldable pub hole : Pattern → ℕ → Point
+unfoldable pub hitOffset : Pattern → ℕ → Point
 unfolding polar
-hole (Line pitch angle count) k = polar (pos (suc k) *ℤ pitch) angle
-hole (Arc radius angle step count) k = polar radius (angle +ℤ (pos k *ℤ step))
-hole (Circle radius angle clockwise count) k = polar radius (circleAngle angle clockwise count k)
-hole (Grid vertical pitch steps) k = gridOffset vertical pitch steps (suc k)
+hitOffset (Line pitch angle count) k = polar (pos (suc k) *ℤ pitch) angle
+hitOffset (Arc radius angle step count) k = polar radius (angle +ℤ (pos k *ℤ step))
+hitOffset (Circle radius angle clockwise count) k = polar radius (circleAngle angle clockwise count k)
+hitOffset (Grid vertical pitch steps) k = gridOffset vertical pitch steps (suc k)
 
 -- how many hits a pattern makes
-unfoldable pub holes : Pattern → ℕ
-holes (Line pitch angle count) = count
-holes (Arc radius angle step count) = count
-holes (Circle radius angle clockwise count) = count
-holes (Grid vertical pitch steps) = suc (steps .x) * suc (steps .y) - 1
+unfoldable pub hitCount : Pattern → ℕ
+hitCount (Line pitch angle count) = count
+hitCount (Arc radius angle step count) = count
+hitCount (Circle radius angle clockwise count) = count
+hitCount (Grid vertical pitch steps) = suc (steps .x) * suc (steps .y) - 1
 
 -- 15: k × I at its largest k, or a grid's I × P and J × K
-unfoldable pub reaches : Pattern → Bool
-reaches (Line pitch angle count) = isNear (pos count *ℤ pitch)
-reaches (Arc radius angle step count) = true
-reaches (Circle radius angle clockwise count) = true
-reaches (Grid vertical pitch steps) = isNear (pos (steps .x) *ℤ pitch .x) && isNear (pos (steps .y) *ℤ pitch .y)
+unfoldable pub reachIsNear : Pattern → Bool
+reachIsNear (Line pitch angle count) = isNear (pos count *ℤ pitch)
+reachIsNear (Arc radius angle step count) = true
+reachIsNear (Circle radius angle clockwise count) = true
+reachIsNear (Grid vertical pitch steps) = isNear (pos (steps .x) *ℤ pitch .x) && isNear (pos (steps .y) *ℤ pitch .y)
 
 -- ---- Carrying a pattern out
 
 -- hits at start plus the offsets of hits k, k + 1, .., so many of them
 unfoldable pub punches : Judging → Frame → ℕ → Pattern → Point → ℕ → ℕ → Progress → Out (Made Progress)
-unfolding punch hole
-punches j f line p start zero k g = still g
-punches j f line p start (suc n) k g = andThen (punch j f line (start ⊕ hole p k) g) (punches j f line p start n (suc k))
+unfolding punch hitOffset
+punches j f line p start zero k g = noHit g
+punches j f line p start (suc n) k g = andThen (punch j f line (start ⊕ hitOffset p k) g) (punches j f line p start n (suc k))
 
 -- a waiting pattern origin, else the current point
 abbrev pub startAt : Waiting → Point → Point
@@ -97,10 +97,10 @@ ending (Grid vertical pitch steps) start g = g
 
 -- Pattern reach is judged before its hits.
 unfoldable pub pattern : Judging → Frame → ℕ → Pattern → Progress → Out (Made Progress)
-unfolding punches holes reaches
+unfolding punches hitCount reachIsNear
 pattern j f line p g = do
-  _ ← need (judged (j .bounds) (reaches p)) 15 line
-  leaving (ending p (startOf (g .state))) (punches j f line p (startOf (g .state)) (holes p) 0 (starting g))
+  _ ← need (judged (j .bounds) (reachIsNear p)) 15 line
+  mapAfter (ending p (startOf (g .state))) (punches j f line p (startOf (g .state)) (hitCount p) 0 (starting g))
 
 -- T chooses the tool, and A stores code and numbers without T before the hits.
 unfoldable pub runPattern : Judging → Frame → ℕ → Pattern → ℕ → ℕ → Progress → Out (Made Progress)

@@ -28,7 +28,7 @@ use Rattle.aries.specs.Outcome.{Out, done, refused, _>>=_, need}
 use Rattle.aries.specs.Test.{within}
 use Rattle.aries.specs.Letters.{letterV}
 use Rattle.aries.specs.Text.{longest, strayLine, withoutSpaces, lines, startsWith}
-use Rattle.aries.specs.Hits.{Hit, cells, Made, still, andThen, leaving}
+use Rattle.aries.specs.Hits.{Hit, cells, Made, noHit, andThen, mapAfter}
 use Rattle.aries.specs.Judging.{Judging, lending, limits}
 use Rattle.aries.specs.Machine.{named}
 use Rattle.aries.specs.Moves.{movedTo, withState, freshProgress}
@@ -91,13 +91,13 @@ startAs p q m =
 -- 8: G92 names one of the machines.
 abbrev pub started : Program → Point → ℕ → Named → Out (Made Program)
 started p q line Neither = refused 8 line
-started p q line (As m) = still (startAs p q m)
+started p q line (As m) = noHit (startAs p q m)
 
 -- G93 and G98: neither moves the current point or drops a waiting origin.
 abbrev pub settled : Program → Out Setup → Out (Made Program)
 settled p out = do
   s ← out
-  still (withSetup p s)
+  noHit (withSetup p s)
 
 -- after a U line the lines of its body are passed over
 abbrev pub withStore : Program → Store → Program
@@ -107,20 +107,20 @@ withStore p st = record { stage = Storing; setup = p .setup; macros = st .macros
 unfoldable pub carryOutside : Judging → List ℕ → ℕ → ℕ → List (List ℕ) → Outside → Program → Out (Made Program)
 unfolding named setOrigin openBody copyPart bodiesOf
 carryOutside j text next line ls (Outside.Machine q) p = started p q line (named q)
-carryOutside j text next line ls Outside.End p = still (atStage Ended p)
+carryOutside j text next line ls Outside.End p = noHit (atStage Ended p)
 carryOutside j text next line ls (Outside.Offset a) p = settled p (setOrigin j line (p .setup .sheet) (offsetBy a (p .setup .offset)) (p .setup))
 carryOutside j text next line ls (Outside.Layout l) p = settled p (setOrigin j line (LaidOut l) (p .setup .offset) (p .setup))
-carryOutside j text next line ls (Outside.Open n) p = leaving (withStore p) (openBody j text n next line ls (p .setup) (withStored (p .macros) (p .progress)))
+carryOutside j text next line ls (Outside.Open n) p = mapAfter (withStore p) (openBody j text n next line ls (p .setup) (withStored (p .macros) (p .progress)))
 carryOutside j text next line ls (Outside.Close n) p = refused 9 line
-carryOutside j text next line ls (Outside.Copy c) p = leaving (withProgress p) (copyPart j (bodiesOf text (p .macros)) (p .setup) line c (p .progress))
+carryOutside j text next line ls (Outside.Copy c) p = mapAfter (withProgress p) (copyPart j (bodiesOf text (p .macros)) (p .setup) line c (p .progress))
 
 -- One block that has begun and is in its place. Four calls may be opened.
 unfoldable pub carryOut : Judging → List ℕ → ℕ → ℕ → List (List ℕ) → Block → Program → Out (Made Program)
 unfolding carry call carryOutside bodiesOf
 carryOut j text next line ls (Block.Direct d) p =
-    leaving (withProgress p) (carry j (call j (bodiesOf text (p .macros)) mostCalls) (ordinaryFrame (p .setup)) line (Block.Direct d) (p .progress))
+    mapAfter (withProgress p) (carry j (call j (bodiesOf text (p .macros)) mostCalls) (ordinaryFrame (p .setup)) line (Block.Direct d) (p .progress))
 carryOut j text next line ls (Block.Call n) p =
-    leaving (withProgress p) (carry j (call j (bodiesOf text (p .macros)) mostCalls) (ordinaryFrame (p .setup)) line (Block.Call n) (p .progress))
+    mapAfter (withProgress p) (carry j (call j (bodiesOf text (p .macros)) mostCalls) (ordinaryFrame (p .setup)) line (Block.Call n) (p .progress))
 carryOut j text next line ls (Block.Outside o) p = carryOutside j text next line ls o p
 
 -- ---- Lines
@@ -133,7 +133,7 @@ isStoring Ended = false
 
 -- A line between a U line and its V line was read with the U line; the V line ends that.
 abbrev pub passOver : List ℕ → Program → Out (Made Program)
-passOver l p = elim (startsWith letterV l) [ true ↦ still (atStage Running p) | false ↦ still p ]
+passOver l p = elim (startsWith letterV l) [ true ↦ noHit (atStage Running p) | false ↦ noHit p ]
 
 -- A block outside bodies.
 unfoldable pub runBlockOutside : Judging → List ℕ → ℕ → ℕ → List ℕ → List (List ℕ) → Program → Out (Made Program)
@@ -145,7 +145,7 @@ runBlockOutside j text next line l ls p = do
 
 -- a blank line does nothing
 abbrev pub runLineOutside : Judging → List ℕ → ℕ → ℕ → List ℕ → List (List ℕ) → Program → Out (Made Program)
-runLineOutside j text next line [] ls p = still p
+runLineOutside j text next line [] ls p = noHit p
 runLineOutside j text next line (b ∷ bs) ls p = elim (isStoring (p .stage)) [
   | true ↦ passOver (b ∷ bs) p
   | false ↦ runBlockOutside j text next line (b ∷ bs) ls p
@@ -154,7 +154,7 @@ runLineOutside j text next line (b ∷ bs) ls p = elim (isStoring (p .stage)) [
 -- the lines of a text from a place on, the first with a number
 unfoldable pub runFrom : Judging → List ℕ → ℕ → ℕ → List (List ℕ) → Program → Out (Made Program)
 unfolding runBlockOutside
-runFrom j text at line [] p = still p
+runFrom j text at line [] p = noHit p
 runFrom j text at line (l ∷ ls) p =
     andThen (runLineOutside j text (at + length l + 1) line l ls p) (runFrom j text (at + length l + 1) (suc line) ls)
 

@@ -1,8 +1,8 @@
-use crate::point::Place;
 use crate::point::Point;
+use crate::point::WidePoint;
 ghost use mathlib.Core.Path.{_≡_};
 ghost use Rattle.aries.specs.Machine.{named, rightEnd, covers};
-ghost use Rattle.aries.specs.Places.{pointOf};
+ghost use Rattle.aries.specs.WidePoints.{pointOf};
 
 // The press: ARIES-222 or ARIES-224.
 pub enum Machine {
@@ -50,7 +50,7 @@ impl Machine {
     }
 
     // The right end of the range.
-    pub fn right(self) -> i32
+    fn right(self) -> i32
         ensures { λ r. ⌜ r ≡ rightEnd self ⌝ }
     {
         match self {
@@ -60,7 +60,7 @@ impl Machine {
     }
 
     // Whether a place is in the punching range.
-    pub fn covers(self, p: Place) -> bool
+    pub fn covers(self, p: WidePoint) -> bool
         ensures { λ r. ⌜ r ≡ covers self (pointOf p) ⌝ }
     {
         let x = p.x;

@@ -1,5 +1,5 @@
 ghost use mathlib.Core.Path.{_≡_};
-ghost use Rattle.aries.specs.Places.{pointOf, located};
+ghost use Rattle.aries.specs.WidePoints.{pointOf, located};
 
 // The largest size of a coordinate, in hundredths.
 pub const FARTHEST: u32 = 999_999;
@@ -11,7 +11,7 @@ pub struct Point {
 }
 
 // A point as it is computed, before anything is judged of it.
-pub struct Place {
+pub struct WidePoint {
     pub x: i64,
     pub y: i64,
 }
@@ -22,7 +22,7 @@ pub enum Located {
     TooFar,
 }
 
-impl Place {
+impl WidePoint {
     // The point of a place, if both coordinates are within the largest size.
     pub fn located(self) -> Located
         ensures { λ r. ⌜ r ≡ located (pointOf self) ⌝ }

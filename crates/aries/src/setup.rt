@@ -10,7 +10,7 @@ ghost use mathlib.Core.Path.{_≡_};
 ghost use Rattle.aries.specs.declared.state.Status.the-variants.{Passed, Refused};
 ghost use Rattle.aries.specs.Setup.{freshSetup, withMachine, referenceOf, withOrigin, ordinaryFrame};
 ghost use Rattle.aries.specs.Moves.{_⊕_};
-ghost use Rattle.aries.specs.Program.{withProgress, freshProgram};
+ghost use Rattle.aries.specs.Program.{freshProgram};
 
 // Whether G98 is in force.
 pub enum Sheet {
@@ -132,14 +132,6 @@ impl Program {
             macros,
             progress,
         }
-    }
-
-    // The program with another progress.
-    pub fn with_progress(mut self, progress: Progress) -> Program
-        ensures { λ r. ⌜ r ≡ withProgress self progress ⌝ }
-    {
-        self.progress = progress;
-        self
     }
 }
 

@@ -2,8 +2,8 @@ use crate::block::Measure;
 use crate::block::Pattern;
 use crate::job::Job;
 use crate::machine::Machine;
-use crate::point::Place;
 use crate::point::Point;
+use crate::point::WidePoint;
 ghost use mathlib.Core.Path.{_≡_};
 ghost use mathlib.Core.Bool.{true};
 ghost use Prim.Native.Nat.{_-_, _<_};
@@ -26,7 +26,7 @@ ghost use Rattle.aries.specs.Patterns.{startOf, emptyMemory};
 ghost use Rattle.aries.specs.Macros.{begun};
 ghost use Rattle.aries.specs.Judging.{mostBlocks};
 ghost use Rattle.aries.specs.Machine.{inRange};
-ghost use Rattle.aries.specs.Places.{pointOf};
+ghost use Rattle.aries.specs.WidePoints.{pointOf};
 ghost use Rattle.aries.specs.Setup.{frameAt};
 
 // The pattern origin that G72 set and no pattern has used up yet.
@@ -212,7 +212,7 @@ impl Frame {
     }
 
     // Whether a place is in the punching range.
-    pub fn covers(self, place: Place) -> bool
+    pub fn covers(self, place: WidePoint) -> bool
         ensures { λ r. ⌜ r ≡ inRange self (pointOf place) ⌝ }
     {
         let machine = self.machine;

@@ -21,9 +21,3 @@ pub struct Words {
     // a letter stands twice, a code beside another one, or N or A out of its place
     pub misplaced: bool,
 }
-
-// What stands at a place of a block where a word is due: a word that starts with a letter, with the place past it.
-pub enum Reading {
-    Word(u8, Word, usize),
-    Malformed,
-}

@@ -17,28 +17,22 @@ use Rattle.aries.specs.declared.state.Status.{Status}
 use Rattle.aries.specs.declared.state.Status.the-variants.{Passed, Refused}
 use Rattle.aries.specs.declared.state.Progress.{Progress}
 use Rattle.aries.specs.Outcome.{Out, done, refused, _>>=_}
-use Rattle.aries.specs.Hits.{Hit, Made, still, adding, andThen}
+use Rattle.aries.specs.Hits.{Hit, Made, noHit, adding, andThen}
 use Rattle.aries.specs.Judging.{Judging}
 use Rattle.aries.specs.Macros.{Calls, carryDirect, carry, Begun, begin, runBlock, runLine, runLines}
 use Rattle.aries.specs.Runs.{Lent, Ran}
 use Rattle.aries.specs.Text.{lines, lineFeed}
-use Rattle.aries.proofs.Runs.{still-then}
+use Rattle.aries.proofs.Outcomes.{adding-then}
+use Rattle.aries.proofs.Runs.{no-hit-then}
 use Rattle.text.specs.Lines.{lineLength, blanks}
 use Rattle.text.proofs.Lines.{line-ends, feed-after, lines-at, lines-past, lines-blanks}
 use Rattle.stretches.specs.declared.Stop.{Stop}
 use Rattle.stretches.specs.declared.Stop.the-variants as Stop
 use Rattle.stretches.specs.Stretches.{Stretched, stepOf, blockStep, begunStep, lineStep, onward, stretch}
 use Rattle.stretches.proofs.Stops.{first-line}
+use Rattle.bodies.specs.declared.Opening.{Opening}
+use Rattle.bodies.specs.Opening.{Opens}
 use Rattle.bodies.specs.Rest.{rest}
-
--- hits, and then one thing after the other
-adding-then : (hs : List Hit) (x : Out (Made Progress)) (k : Progress → Out (Made Progress)) → adding hs (andThen x k) ≡ andThen (adding hs x) k
-adding-then hs (refused number line) k = refl
-adding-then hs (done m) k = go (k (m .after))
-  where
-    go : (y : Out (Made Progress)) → adding hs (adding (m .hits) y) ≡ adding (hs ++ m .hits) y
-    go (refused number line) = refl
-    go (done n) = ap (λ (l : List Hit). done (record { hits = l; after = n .after })) (sym (append-assoc hs (m .hits) (n .hits)))
 
 module _ (j : Judging) (c : Calls) (f : Frame) where
   -- ---- From line to line
@@ -49,7 +43,7 @@ module _ (j : Judging) (c : Calls) (f : Frame) where
   blank-lines zero line ls g = let e : line ≡ line + 0 = omega arith in ap (λ (k : ℕ). runLines j c f k ls g) e
   blank-lines (suc n) line ls g =
       let e : suc line + n ≡ line + suc n = omega arith in
-      still-then g (runLines j c f (suc line) (replicate n [] ++ ls))
+      no-hit-then g (runLines j c f (suc line) (replicate n [] ++ ls))
       ∙ blank-lines n (suc line) ls g
       ∙ ap (λ (k : ℕ). runLines j c f k ls g) e
 
@@ -71,7 +65,7 @@ module _ (j : Judging) (c : Calls) (f : Frame) where
           let a : end + 0 + 1 ≡ end + 1 = omega arith in
           sym
           (ap (λ (ls : List (List ℕ)). runLines j c f line ls g) (lines-at t end i)
-          ∙ rw z (rw a (still-then g (runLines j c f (suc line) (lines (drop (end + 1) t))))))
+          ∙ rw z (rw a (no-hit-then g (runLines j c f (suc line) (lines (drop (end + 1) t))))))
       go false e =
           let i : length t ≤ end = ltb-false end (length t) e in
           rw (lines-past t (end + 1) (omega arith), lines-past t end i) refl
@@ -98,7 +92,7 @@ module _ (j : Judging) (c : Calls) (f : Frame) where
 
         blocks : (d : Block) (g : Progress) → andThen (carry j c f line d g) next ≡ all (onward (blockStep j f (at + length (b ∷ bs)) line d g) later)
         blocks (Block.Direct d) g = carried (carryDirect j f line d g)
-        blocks (Block.Call n) g = ap (andThen (c f n line g)) (fun-ext past) ∙ sym (still-then g (rest j c f t (Stop.Call n (at + length (b ∷ bs)) line)))
+        blocks (Block.Call n) g = ap (andThen (c f n line g)) (fun-ext past) ∙ sym (no-hit-then g (rest j c f t (Stop.Call n (at + length (b ∷ bs)) line)))
         blocks (Block.Outside o) g = refl
 
         begins :
@@ -121,14 +115,11 @@ module _ (j : Judging) (c : Calls) (f : Frame) where
     pub lines-stretched : (at line : ℕ) (g : Progress) → runLines j c f line (lines (drop at t)) g ≡ all (stretch j f at line (lines (drop at t)) g)
     lines-stretched at line g = lines-all (lines (drop at t)) at line g refl
 
--- ---- A status that is told
-
-pub status-as :
-    {A : Type 0} {hitsOf : A → ℕ} {job : Job} {status : Status} {left : A} {before after : Lent} {k : ℕ} {out : Out (Made A)} {number line : ℕ} → status ≡ Refused number line
-    → Ran hitsOf job status left before after k out → Ran hitsOf job (Refused number line) left before after k out
-status-as e ran = rw e at ran
-
-pub passed-as :
-    {A : Type 0} {hitsOf : A → ℕ} {job : Job} {status : Status} {left : A} {before after : Lent} {k : ℕ} {out : Out (Made A)} → status ≡ Passed
-    → Ran hitsOf job status left before after k out → Ran hitsOf job Passed left before after k out
-passed-as e ran = rw e at ran
+-- a body from its first block on
+pub body-opened :
+    (j : Judging) (c : Calls) (f : Frame) (t : List ℕ) (first : ℕ) (o : Opening) (g : Progress) → Opens t first o
+    → runLines j c f (o .line) (lines (drop (o .at) t)) g ≡ runLines j c f first (lines t) g
+body-opened j c f t first o g e =
+    ap (λ (k : ℕ). runLines j c f k (lines (drop (o .at) t)) g) (e .counted)
+    ∙ ap (λ (k : ℕ). runLines j c f (first + k) (lines (drop k t)) g) (e .past)
+    ∙ sym (lines-skip j c f t first g)

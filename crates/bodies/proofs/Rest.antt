@@ -8,19 +8,19 @@ use lib.ListN.{length, drop}
 use Rattle.aries.specs.declared.state.Frame.{Frame}
 use Rattle.aries.specs.declared.state.Progress.{Progress}
 use Rattle.aries.specs.Outcome.{Out, done, refused}
-use Rattle.aries.specs.Hits.{Hit, Made, still, andThen}
+use Rattle.aries.specs.Hits.{Hit, Made, noHit, andThen}
 use Rattle.aries.specs.Judging.{Judging, limits}
 use Rattle.aries.specs.Macros.{Calls, runLines}
 use Rattle.aries.specs.Runs.{Lent, hitsMade, Ran}
 use Rattle.aries.specs.Text.{lines}
-use Rattle.aries.proofs.Runs.{Leads, leads-start, leads-as, leads-on}
+use Rattle.aries.proofs.Runs.{Leads, leads-start, leads-as, leads-on, passed-as}
 use Rattle.stretches.specs.declared.Stop.{Stop}
 use Rattle.stretches.specs.declared.Stop.the-variants as Stop
 use Rattle.stretches.specs.declared.Stretch.{Stretch}
 use Rattle.stretches.specs.Stretches.{Stretched, stretch, isEnd, LinesFit, Stretches}
 use Rattle.stretches.proofs.Stops.{Stops, stretch-stops, stretch-passes}
 use Rattle.bodies.specs.Rest.{rest, RestFits}
-use Rattle.bodies.proofs.Lines.{lines-stretched, passed-as}
+use Rattle.bodies.proofs.Lines.{lines-stretched}
 
 -- its line numbers fit, where those of the stretch did
 pub rest-fits : (t : List ℕ) (at line : ℕ) (s : Stop) → LinesFit line at t → Stops t at line s → RestFits t s
@@ -51,9 +51,9 @@ is-end Stop.End e = refl
 is-end (Stop.Call n end line) e = absurd (true≢false (sym e))
 is-end (Stop.Outside o end line) e = absurd (true≢false (sym e))
 
-then-still : (out : Out (Made Progress)) → andThen out still ≡ out
-then-still (refused number line) = refl
-then-still (done m) = ap (λ (hs : List Hit). done (record { hits = hs; after = m .after })) (append-nil (m .hits))
+then-no-hit : (out : Out (Made Progress)) → andThen out noHit ≡ out
+then-no-hit (refused number line) = refl
+then-no-hit (done m) = ap (λ (hs : List Hit). done (record { hits = hs; after = m .after })) (append-nil (m .hits))
 
 module _
     (c : Calls) (t : List ℕ) (at line : ℕ) {r : Stretch} {f : Frame} {before after : Lent} {g : Progress}
@@ -71,7 +71,7 @@ module _
   pub lines-over : isEnd (r .stop) ≡ true → Ran hitsMade (f .job) (r .status) (r .progress) before after (g .hits) whole
   lines-over e =
       subst (Ran hitsMade (f .job) (r .status) (r .progress) before after (g .hits))
-      (sym (then-still (made .made)) ∙ ap (λ (s : Stop). andThen (made .made) (rest judging c f t s)) (sym (is-end (r .stop) e) ∙ st .stopped) ∙ sym (lines-stretched judging c f t at line g))
+      (sym (then-no-hit (made .made)) ∙ ap (λ (s : Stop). andThen (made .made) (rest judging c f t s)) (sym (is-end (r .stop) e) ∙ st .stopped) ∙ sym (lines-stretched judging c f t at line g))
       (st .ran)
 
   -- something follows: whoever carries that out has carried out all

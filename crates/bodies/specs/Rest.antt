@@ -5,7 +5,7 @@ use lib.ListN.{drop}
 use Rattle.aries.specs.declared.state.Frame.{Frame}
 use Rattle.aries.specs.declared.state.Progress.{Progress}
 use Rattle.aries.specs.Outcome.{Out, refused}
-use Rattle.aries.specs.Hits.{Made, still, andThen}
+use Rattle.aries.specs.Hits.{Made, noHit, andThen}
 use Rattle.aries.specs.Judging.{Judging}
 use Rattle.aries.specs.Macros.{Calls, runLines}
 use Rattle.aries.specs.Text.{lines}
@@ -15,7 +15,7 @@ use Rattle.stretches.specs.Stretches.{LinesFit}
 
 -- nothing at its end; a call, and then the lines behind it; any other block is out of place
 abbrev pub rest : Judging → Calls → Frame → List ℕ → Stop → Progress → Out (Made Progress)
-rest j c f t Stop.End g = still g
+rest j c f t Stop.End g = noHit g
 rest j c f t (Stop.Call n end line) g = andThen (c f n line g) (runLines j c f line (lines (drop end t)))
 rest j c f t (Stop.Outside o end line) g = refused 7 line
 

@@ -18,7 +18,7 @@ use Rattle.aries.specs.Setup.{ordinaryFrame}
 use Rattle.text.proofs.Lines.{lines-past}
 use Rattle.bodies.specs.declared.Opening.{Opening}
 use Rattle.bodies.specs.Opening.{Opens}
-use Rattle.bodies.proofs.Calls.{body-opened}
+use Rattle.bodies.proofs.Lines.{body-opened}
 use Rattle.copies.specs.Copying.{bodyOf, openedPart, blankPart, allCopies}
 
 -- ---- The ways through a block

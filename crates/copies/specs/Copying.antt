@@ -7,7 +7,7 @@ use Rattle.aries.specs.declared.block.Layout.{Layout}
 use Rattle.aries.specs.declared.state.Frame.{Frame}
 use Rattle.aries.specs.declared.state.Progress.{Progress}
 use Rattle.aries.specs.Outcome.{Out}
-use Rattle.aries.specs.Hits.{Made, still}
+use Rattle.aries.specs.Hits.{Made, noHit}
 use Rattle.aries.specs.Judging.{Judging}
 use Rattle.aries.specs.Macros.{Body, Bodies, call, mostCalls, runLines}
 use Rattle.aries.specs.Text.{lines}
@@ -24,7 +24,7 @@ openedPart j bodies o body f g = runLines j (call j bodies (mostCalls - 1)) f (o
 
 -- a part without a block
 abbrev pub blankPart : Part
-blankPart f g = still g
+blankPart f g = noHit g
 
 -- all copies of a part, from the state that is found; the layout's lower left place is at the frame's origin
 abbrev pub allCopies : Judging → Part → Frame → ℕ → Layout → Copies → Progress → Out (Made Progress)

@@ -4,8 +4,8 @@ use aries::block::Layout;
 use aries::macros::Found;
 use aries::macros::Macros;
 use aries::point::Located;
-use aries::point::Place;
 use aries::point::Point;
+use aries::point::WidePoint;
 use aries::refusal;
 use aries::setup::Setup;
 use aries::setup::Sheet;
@@ -20,7 +20,7 @@ use stretches::run_stretch;
 ghost use mathlib.Core.Path.{_≡_};
 ghost use Rattle.aries.specs.Layouts.{copyStart, partOf, copy, copyPart};
 ghost use Rattle.aries.specs.Macros.{bodiesOf};
-ghost use Rattle.aries.specs.Places.{pointOf};
+ghost use Rattle.aries.specs.WidePoints.{pointOf};
 ghost use Rattle.aries.specs.Runs.{Lent, lent, Carried};
 ghost use Rattle.aries.specs.Setup.{ordinaryFrame};
 ghost use Rattle.stretches.specs.Stretches.{LinesFit};
@@ -62,7 +62,7 @@ fn copy_at(
     frame: Frame,
     line: u64,
     found: State,
-    place: Place,
+    place: WidePoint,
     progress: Progress,
 ) -> Outcome
     requires { ⌜ LinesFit (opening .line) (opening .at) (now body) ⌝ }

@@ -63,13 +63,6 @@ along-passed last c h =
 pub rest-within : (last m : ℕ) → m % suc last ≤ last
 rest-within last m = let h : 0 < suc last = omega arith in omega (arith, mod-lt m h)
 
--- among lanes of equal length, the lane is one of them
-pub lane-within : (last lastLane m : ℕ) → m < suc last * suc lastLane → lane last m ≤ lastLane
-lane-within last lastLane m h =
-    let p : 0 < suc last = omega arith in
-    let q : m < suc lastLane * suc last = omega arith in
-    omega (arith, div-lt-iff-lt-mul p .1 q)
-
 -- a lane's number is at most the place's
 pub lane-least : (last m : ℕ) → lane last m ≤ m
 lane-least last m = div-le-self m (suc last)

@@ -14,12 +14,12 @@ use Rattle.aries.specs.declared.state.Status.the-variants.{Refused}
 use Rattle.patterns.specs.declared.series.Tooling.{Tooling}
 use Rattle.patterns.specs.declared.series.Reached.{Reached}
 use Rattle.aries.specs.Outcome.{Out, done, refused}
-use Rattle.aries.specs.Hits.{Made, andThen, leaving}
+use Rattle.aries.specs.Hits.{Made, andThen, mapAfter}
 use Rattle.aries.specs.Judging.{limits}
 use Rattle.aries.specs.Moves.{_⊕_, punch}
-use Rattle.aries.specs.Patterns.{hole, holes, punches, ending}
+use Rattle.aries.specs.Patterns.{hitOffset, hitCount, punches, ending}
 use Rattle.aries.specs.Runs.{Lent, hitsMade, Ran}
-use Rattle.aries.proofs.Runs.{ran-refused, ran-leaving, Leads, leads-start, leads-as, leads-on, leads-out, leads-end}
+use Rattle.aries.proofs.Runs.{refused-map, ran-map, Leads, leads-start, leads-as, leads-on, leads-out, leads-end}
 use Rattle.patterns.specs.Series.{come, statusAt, Comes, series}
 
 -- the end of a pattern makes no hit
@@ -28,12 +28,6 @@ ending-hits (Line pitch angle count) start g = refl
 ending-hits (Arc radius angle step count) start g = refl
 ending-hits (Circle radius angle clockwise count) start g = refl
 ending-hits (Grid vertical pitch steps) start g = refl
-
--- a refusal is one, whatever its result would be seen as
-refused-leaving : {job : Job} {left : Progress} {before after : Lent} {k number line : ℕ} (f : Progress → Progress) (out : Out (Made Progress))
-    → Ran hitsMade job (Refused number line) left before after k out → Ran hitsMade job (Refused number line) left before after k (leaving f out)
-refused-leaving f (refused number line) h = rw (h .same-status) ran-refused
-refused-leaving f (done m) h = let z : _≡_ {A = ℕ} 0 1 = cc (h .same-status) in absurd (omega arith)
 
 -- a number that is not 0 is a refusal's
 pub status-refused : (number line : ℕ) → 0 < number → statusAt number line ≡ Refused number line
@@ -89,15 +83,15 @@ module _ (s : Series) where
       }
 
   -- hit k, and then what is left
-  turn : (k : ℕ) (place : Point) → k < s .count → place ≡ s .start ⊕ hole (s .pattern) k → (line : ℕ) (g : Progress)
+  turn : (k : ℕ) (place : Point) → k < s .count → place ≡ s .start ⊕ hitOffset (s .pattern) k → (line : ℕ) (g : Progress)
       → left line (s .count - k) k g ≡ andThen (hitAt place line g) (left line (s .count - (k + 1)) (k + 1))
   unfolding punches
   turn k place more is line g =
       let e : s .count - k ≡ suc (s .count - (k + 1)) = omega arith in
       let f : suc k ≡ k + 1 = omega arith in
-      rw (e, is) (ap (λ (n : ℕ). andThen (hitAt (s .start ⊕ hole (s .pattern) k) line g) (left line (s .count - (k + 1)) n)) f)
+      rw (e, is) (ap (λ (n : ℕ). andThen (hitAt (s .start ⊕ hitOffset (s .pattern) k) line g) (left line (s .count - (k + 1)) n)) f)
 
-  module _ {now next : Lent} {made : Reached} {k : ℕ} {place : Point} (under : UnderWay now made k) (more : k < s .count) (is : place ≡ s .start ⊕ hole (s .pattern) k)
+  module _ {now next : Lent} {made : Reached} {k : ℕ} {place : Point} (under : UnderWay now made k) (more : k < s .count) (is : place ≡ s .start ⊕ hitOffset (s .pattern) k)
       (r : Reached) (comes : Comes r (s .frame) (s .tooling) (made .current) (made .hits) now next (hitAt place)) where
     -- a hit that is made
     pub under-next : r .number ≡ 0 → UnderWay next r (k + 1)
@@ -111,18 +105,18 @@ module _ (s : Series) where
         }
 
     -- and one that is refused
-    pub under-refused : 0 < r .number → s .count ≡ holes (s .pattern) → Ends s r next
+    pub under-refused : 0 < r .number → s .count ≡ hitCount (s .pattern) → Ends s r next
     under-refused some same line g =
         rw (status-refused (r .number) line some, ← same)
-        (refused-leaving (ending (s .pattern) (s .start)) (all line g)
+        (refused-map (ending (s .pattern) (s .start)) (all line g)
         (leads-out (left line (s .count - (k + 1)) (k + 1)) (rw (status-refused (r .number) line some) at (comes line g))
         (leads-as (turn k place more is line (reached made g)) (under .leads line g))))
 
   -- at the end
-  pub under-end : {now : Lent} {made : Reached} {k : ℕ} (r : Reached) → UnderWay now made k → s .count ≤ k → s .count ≡ holes (s .pattern) → r .number ≡ 0
+  pub under-end : {now : Lent} {made : Reached} {k : ℕ} (r : Reached) → UnderWay now made k → s .count ≤ k → s .count ≡ hitCount (s .pattern) → r .number ≡ 0
       → ((g : Progress) → reached r g ≡ ending (s .pattern) (s .start) (reached made g)) → Ends s r now
   unfolding punches
   under-end {made = made} {k} r under past same none ends line g =
       let e : s .count - k ≡ 0 = omega arith in
       rw (none, ends g, ← same)
-      (ran-leaving (ending (s .pattern) (s .start)) (ending-hits (s .pattern) (s .start)) (all line g) (leads-end (rw e at (under .leads line g))))
+      (ran-map (ending (s .pattern) (s .start)) (ending-hits (s .pattern) (s .start)) (all line g) (leads-end (rw e at (under .leads line g))))

@@ -7,7 +7,7 @@ use native.Mathlib.Omega.{arith}
 use lib.IntN.{ℤ, pos, natAbs, _*ℤ_}
 use borrow.Author.Tests.{leb-true, le-leb}
 use Rattle.signed.proofs.Integers.{abs-*ℤ}
-use Rattle.lanes.proofs.Cursors.{lane-within}
+use Rattle.aries.proofs.Lanes.{lane-bound}
 use Rattle.aries.specs.declared.block.Steps.{Steps}
 use Rattle.aries.specs.Judging.{isNear, farthest}
 use Rattle.aries.specs.Lanes.{lane}
@@ -35,6 +35,6 @@ nearer n count pitch h e = le-leb (natAbs (pos n *ℤ pitch)) farthest (le-trans
 pub lane-small : (vertical : Bool) (steps : Steps) (last k : ℕ) → last ≡ laneEnd vertical steps → k < suc (steps .x) * suc (steps .y) - 1
     → steps .x < 65536 → steps .y < 65536 → lane last (suc k) ≤ 65535
 lane-small true steps last k e h x y =
-    let q : suc k < suc last * suc (steps .x) = rw e (omega arith) in omega (arith, lane-within last (steps .x) (suc k) q)
+    let q : suc k < suc last * suc (steps .x) = rw e (omega arith) in omega (arith, lane-bound last (steps .x) (suc k) q)
 lane-small false steps last k e h x y =
-    let q : suc k < suc last * suc (steps .y) = rw e (omega arith) in omega (arith, lane-within last (steps .y) (suc k) q)
+    let q : suc k < suc last * suc (steps .y) = rw e (omega arith) in omega (arith, lane-bound last (steps .y) (suc k) q)

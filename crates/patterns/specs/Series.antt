@@ -9,9 +9,9 @@ use Rattle.aries.specs.declared.state.Status.the-variants.{Passed, Refused}
 use Rattle.patterns.specs.declared.series.Tooling.{Tooling}
 use Rattle.patterns.specs.declared.series.Reached.{Reached}
 use Rattle.aries.specs.Outcome.{Out}
-use Rattle.aries.specs.Hits.{Made, leaving}
+use Rattle.aries.specs.Hits.{Made, mapAfter}
 use Rattle.aries.specs.Judging.{limits}
-use Rattle.aries.specs.Patterns.{holes, punches, ending}
+use Rattle.aries.specs.Patterns.{hitCount, punches, ending}
 use Rattle.aries.specs.Runs.{Lent, hitsMade, Ran}
 
 -- a progress with this tool and mode that has come to a point, with so many hits
@@ -44,4 +44,4 @@ Comes r f tooling from hits before after what =
 
 -- the hits of a pattern in turn, and its end
 abbrev pub series : Frame → Pattern → Point → ℕ → Progress → Out (Made Progress)
-series f p start line g = leaving (ending p start) (punches (limits (f .job)) f line p start (holes p) 0 g)
+series f p start line g = mapAfter (ending p start) (punches (limits (f .job)) f line p start (hitCount p) 0 g)

@@ -1,6 +1,6 @@
 use aries::block::Steps;
-use aries::point::Place;
 use aries::point::Point;
+use aries::point::WidePoint;
 use lanes::Cursor;
 use sine::Direction;
 ghost use mathlib.Core.Path.{_≡_};
@@ -10,7 +10,7 @@ ghost use lib.IntN.{pos, _*ℤ_};
 ghost use Rattle.sine.specs.Series.{Tables};
 ghost use Rattle.sine.specs.Sine.{directionOf};
 ghost use Rattle.lanes.specs.Cursors.{passed};
-ghost use Rattle.aries.specs.Places.{pointOf};
+ghost use Rattle.aries.specs.WidePoints.{pointOf};
 ghost use Rattle.aries.specs.Judging.{isNear};
 ghost use Rattle.aries.specs.Moves.{pointAt, _⊕_};
 ghost use Rattle.aries.specs.Patterns.{polar, turned, circleAngle, gridOffset};
@@ -30,21 +30,21 @@ pub fn line_direction(angle: i32) -> Direction
 }
 
 // The place at a distance from the start, in a direction.
-fn polar_place(start: Point, distance: i32, direction: Direction) -> Place
+fn polar_place(start: Point, distance: i32, direction: Direction) -> WidePoint
     ensures { λ r. ⌜ pointOf r ≡ start ⊕ toward distance direction ⌝ }
 {
     let x = start.x;
     let y = start.y;
     let cosine = direction.cosine;
     let sine = direction.sine;
-    Place {
+    WidePoint {
         x: sine::displaced(x, distance, cosine),
         y: sine::displaced(y, distance, sine),
     }
 }
 
 // The place on a line that lies n pitches from the start.
-pub fn line_place(start: Point, pitch: i32, direction: Direction, n: u16) -> Place
+pub fn line_place(start: Point, pitch: i32, direction: Direction, n: u16) -> WidePoint
     requires { ⌜ isNear (pos n *ℤ pitch) ≡ true ⌝ }
     ensures { λ r. ⌜ pointOf r ≡ start ⊕ toward (pos n *ℤ pitch) direction ⌝ }
 {
@@ -60,7 +60,7 @@ pub fn arc_place(
     degrees: &[u32; 91],
     sines: &[u32; 100],
     cosines: &[u32; 100],
-) -> Place
+) -> WidePoint
     requires { ⌜ Tables (now degrees) (now sines) (now cosines) ⌝ }
     ensures { λ r. ⌜ pointOf r ≡ start ⊕ polar radius angle ⌝ }
 {
@@ -95,21 +95,27 @@ pub fn circle_angle(angle: i32, clockwise: bool, n: u16, k: u16) -> i64
 }
 
 // The place so many columns and rows from the start.
-fn step_place(start: Point, pitch: Point, column: u16, row: u16) -> Place
+fn step_place(start: Point, pitch: Point, column: u16, row: u16) -> WidePoint
     ensures { λ r. ⌜ pointOf r ≡ start ⊕ pointAt (pos column *ℤ pitch .x) (pos row *ℤ pitch .y) ⌝ }
 {
     let x = start.x;
     let y = start.y;
     let pitch_x = pitch.x;
     let pitch_y = pitch.y;
-    Place {
+    WidePoint {
         x: signed::affine(x, column, pitch_x),
         y: signed::affine(y, row, pitch_y),
     }
 }
 
 // The place of a cursor in a grid, whose lanes are rows or, in a vertical one, columns.
-pub fn grid_place(start: Point, vertical: bool, pitch: Point, steps: Steps, cursor: Cursor) -> Place
+pub fn grid_place(
+    start: Point,
+    vertical: bool,
+    pitch: Point,
+    steps: Steps,
+    cursor: Cursor,
+) -> WidePoint
     requires { ⌜ (cursor .rest ≤ laneEnd vertical steps) × (cursor .lane ≤ 65535) ⌝ }
     ensures { λ r. ⌜ pointOf r ≡ start ⊕ gridOffset vertical pitch steps (passed (laneEnd vertical steps) cursor) ⌝ }
 {

@@ -35,7 +35,7 @@ fn carry_out(
 ) -> Outcome
     ensures { λ r. ⌜ Carried r frame (lent (now (list .entry))) (lent (now (list .exit))) progress (λ j. Patterns.pattern j frame line pattern) ⌝ }
 {
-    if !sizes::reaches(pattern) {
+    if !sizes::reach_is_near(pattern) {
         return Outcome::refused(refusal::TOO_FAR, line, progress);
     }
     let state = progress.state;

@@ -2,8 +2,8 @@ use crate::places;
 use crate::sizes;
 use aries::block::Pattern;
 use aries::block::Steps;
-use aries::point::Place;
 use aries::point::Point;
+use aries::point::WidePoint;
 use aries::state::Frame;
 use lanes::Cursor;
 use press::hits;
@@ -14,8 +14,8 @@ ghost use lib.IntN.{pos, _*ℤ_};
 ghost use Rattle.aries.specs.declared.block.Pattern.the-variants.{Line, Arc, Circle, Grid};
 ghost use Rattle.aries.specs.Judging.{isNear, limits};
 ghost use Rattle.aries.specs.Moves.{punch};
-ghost use Rattle.aries.specs.Patterns.{reaches};
-ghost use Rattle.aries.specs.Places.{pointOf};
+ghost use Rattle.aries.specs.Patterns.{reachIsNear};
+ghost use Rattle.aries.specs.WidePoints.{pointOf};
 ghost use Rattle.aries.specs.Runs.{lent};
 ghost use Rattle.patterns.specs.Series.{Comes, series};
 
@@ -37,7 +37,7 @@ fn punch_next(
     list: &mut [i32],
     frame: Frame,
     tooling: Tooling,
-    place: Place,
+    place: WidePoint,
     from: Reached,
 ) -> Reached
     ensures { λ r. ⌜ Comes r frame tooling (from .current) (from .hits) (lent (now (list .entry))) (lent (now (list .exit))) (λ line. punch (limits (frame .job)) frame line (pointOf place)) ⌝ }
@@ -175,7 +175,7 @@ fn punch_grid(
 ) -> Reached
     ensures { λ r. ⌜ Comes r frame tooling start hits (lent (now (list .entry))) (lent (now (list .exit))) (series frame (Grid vertical pitch steps) start) ⌝ }
 {
-    let count = sizes::grid_holes(steps);
+    let count = sizes::grid_hits(steps);
     let last = sizes::lane_end(vertical, steps);
     let mut made = Reached {
         number: 0,
@@ -205,7 +205,7 @@ pub fn punch_series(
     hits: usize,
     pattern: Pattern,
 ) -> Reached
-    requires { ⌜ reaches pattern ≡ true ⌝ }
+    requires { ⌜ reachIsNear pattern ≡ true ⌝ }
     ensures { λ r. ⌜ Comes r frame tooling start hits (lent (now (list .entry))) (lent (now (list .exit))) (series frame pattern start) ⌝ }
 {
     match pattern {

@@ -5,11 +5,11 @@ ghost use mathlib.Core.Path.{_≡_};
 ghost use Prim.Native.Nat.{suc, _-_, _*_};
 ghost use lib.IntN.{pos, _*ℤ_};
 ghost use Rattle.aries.specs.Judging.{isNear};
-ghost use Rattle.aries.specs.Patterns.{reaches};
+ghost use Rattle.aries.specs.Patterns.{reachIsNear};
 ghost use Rattle.patterns.specs.Offsets.{laneEnd};
 
 // How many hits a grid makes: its places but the start.
-pub fn grid_holes(steps: Steps) -> u32
+pub fn grid_hits(steps: Steps) -> u32
     ensures { λ r. ⌜ r ≡ suc (steps .x) * suc (steps .y) - 1 ⌝ }
 {
     let columns = steps.x as u64 + 1;
@@ -33,8 +33,8 @@ fn is_near(count: u16, pitch: i32) -> bool
 
 // Whether the farthest distance of a line, or the sides of a grid, stay within the largest coordinate. Arcs and circles
 // have no reach.
-pub fn reaches(pattern: Pattern) -> bool
-    ensures { λ r. ⌜ r ≡ reaches pattern ⌝ }
+pub fn reach_is_near(pattern: Pattern) -> bool
+    ensures { λ r. ⌜ r ≡ reachIsNear pattern ⌝ }
 {
     match pattern {
         Pattern::Line { pitch, count, .. } => is_near(count, pitch),

@@ -1,3 +1,2 @@
 pub mod AllNear
 pub mod CopyPlace
-pub mod Located

@@ -2,15 +2,15 @@
 use aries::block::Copies;
 use aries::block::Layout;
 use aries::point::Located;
-use aries::point::Place;
 use aries::point::Point;
+use aries::point::WidePoint;
 use lanes::Cursor;
 ghost use mathlib.Core.Path.{_≡_};
 ghost use Prim.Native.Nat.{_*_, _≤_};
 ghost use lib.IntN.{pos, _+ℤ_};
 ghost use Rattle.aries.specs.Judging.{near};
 ghost use Rattle.aries.specs.Layouts.{copyCount, fromRight, fromTop, facing, placeAt, copyPlace};
-ghost use Rattle.aries.specs.Places.{pointOf};
+ghost use Rattle.aries.specs.WidePoints.{pointOf};
 ghost use Rattle.lanes.specs.Cursors.{passed};
 ghost use Rattle.placing.specs.Places.{laneEnd, lastLane, allNear, lastCopy};
 
@@ -86,20 +86,20 @@ fn coordinate(origin: i32, far: bool, last: u16, n: u16, pitch: u32) -> i64
 }
 
 // The place of a column and a row, counted from the corner where the run starts.
-fn place_at(origin: Point, layout: Layout, corner: u8, column: u16, row: u16) -> Place
+fn place_at(origin: Point, layout: Layout, corner: u8, column: u16, row: u16) -> WidePoint
     requires { ⌜ (column ≤ layout .steps .x) × (row ≤ layout .steps .y) ⌝ }
     ensures { λ r. ⌜ pointOf r ≡ placeAt origin layout corner column row ⌝ }
 {
     let steps = layout.steps;
     let pitch = layout.pitch;
-    Place {
+    WidePoint {
         x: coordinate(origin.x, from_right(corner), steps.x, column, pitch.x),
         y: coordinate(origin.y, from_top(corner), steps.y, row, pitch.y),
     }
 }
 
 // The place of the copy that a cursor stands at. Lanes are rows, or for G76 columns.
-pub fn copy_place(origin: Point, layout: Layout, copies: Copies, cursor: Cursor) -> Place
+pub fn copy_place(origin: Point, layout: Layout, copies: Copies, cursor: Cursor) -> WidePoint
     requires { ⌜ (cursor .rest ≤ laneEnd layout copies) × (cursor .lane ≤ lastLane layout copies) ⌝ }
     ensures { λ r. ⌜ pointOf r ≡ copyPlace origin layout copies (passed (laneEnd layout copies) cursor) ⌝ }
 {
@@ -115,7 +115,7 @@ pub fn copy_place(origin: Point, layout: Layout, copies: Copies, cursor: Cursor)
 }
 
 // Whether 15 lets a place pass.
-fn is_near(place: Place) -> bool
+fn is_near(place: WidePoint) -> bool
     ensures { λ r. ⌜ r ≡ near (pointOf place) ⌝ }
 {
     let located = place.located();

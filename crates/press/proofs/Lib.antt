@@ -1,2 +1,1 @@
-pub mod Located
 pub mod Punch

@@ -1,7 +1,7 @@
 use aries::job;
 use aries::point::Located;
-use aries::point::Place;
 use aries::point::Point;
+use aries::point::WidePoint;
 use aries::refusal;
 use aries::state::Frame;
 use aries::state::Outcome;
@@ -12,7 +12,7 @@ ghost use lib.IntN.{pos};
 ghost use Rattle.aries.specs.Hits.{modeNumber};
 ghost use Rattle.aries.specs.Judging.{near};
 ghost use Rattle.aries.specs.Moves.{punch};
-ghost use Rattle.aries.specs.Places.{pointOf};
+ghost use Rattle.aries.specs.WidePoints.{pointOf};
 ghost use Rattle.aries.specs.Runs.{lent, put, Carried};
 ghost use Rattle.press.specs.Hits.{judgedHit, listAfter};
 
@@ -54,7 +54,7 @@ fn put_hit(list: &mut [i32], k: usize, p: Point, tool: u8, nibble: bool)
 }
 
 // The refusal of a place that is out of the punching range: 15 where it is too far away, else 16.
-fn out_of_range(place: Place) -> u8
+fn out_of_range(place: WidePoint) -> u8
     ensures { λ r. ⌜ r ≡ cond (near (pointOf place)) 16 15 ⌝ }
 {
     let located = place.located();
@@ -69,7 +69,7 @@ fn out_of_range(place: Place) -> u8
 pub fn hit(
     list: &mut [i32],
     frame: Frame,
-    place: Place,
+    place: WidePoint,
     tool: u8,
     nibble: bool,
     hits: usize,
@@ -97,7 +97,13 @@ pub fn hit(
 }
 
 // Makes a hit with the state's tool and mode; the place becomes the current point.
-pub fn punch(list: &mut [i32], frame: Frame, line: u64, place: Place, progress: Progress) -> Outcome
+pub fn punch(
+    list: &mut [i32],
+    frame: Frame,
+    line: u64,
+    place: WidePoint,
+    progress: Progress,
+) -> Outcome
     ensures { λ r. ⌜ Carried r frame (lent (now (list .entry))) (lent (now (list .exit))) progress (λ j. punch j frame line (pointOf place)) ⌝ }
 {
     let state = progress.state;

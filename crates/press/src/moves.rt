@@ -2,14 +2,14 @@ use crate::hits;
 use aries::block::Axes;
 use aries::block::Axis;
 use aries::point::Located;
-use aries::point::Place;
+use aries::point::WidePoint;
 use aries::refusal;
 use aries::state::Frame;
 use aries::state::Outcome;
 use aries::state::Progress;
 use aries::state::State;
 ghost use mathlib.Core.Path.{_≡_};
-ghost use Rattle.aries.specs.Places.{pointOf};
+ghost use Rattle.aries.specs.WidePoints.{pointOf};
 ghost use Rattle.aries.specs.Moves.{axisTarget, target, position, move, setPatternOrigin};
 ghost use Rattle.aries.specs.Runs.{Lent, lent, Carried};
 
@@ -30,7 +30,7 @@ fn axis_target(axis: Axis, incremental: bool, origin: i32, current: i32) -> i64
 }
 
 // The place that a block's X and Y name.
-fn target(frame: Frame, state: State, axes: Axes) -> Place
+fn target(frame: Frame, state: State, axes: Axes) -> WidePoint
     ensures { λ r. ⌜ pointOf r ≡ target frame state axes ⌝ }
 {
     let x = axes.x;
@@ -39,7 +39,7 @@ fn target(frame: Frame, state: State, axes: Axes) -> Place
     let origin_y = frame.origin.y;
     let current_x = state.current.x;
     let current_y = state.current.y;
-    Place {
+    WidePoint {
         x: axis_target(x, state.incremental, origin_x, current_x),
         y: axis_target(y, state.incremental, origin_y, current_y),
     }

@@ -20,17 +20,16 @@ use Rattle.aries.specs.declared.state.Progress.{Progress}
 use Rattle.aries.specs.Outcome.{Out, refused, _>>=_}
 use Rattle.aries.specs.Letters.{letterV}
 use Rattle.aries.specs.Text.{lineFeed, lines, startsWith}
-use Rattle.aries.specs.Hits.{Made, still, andThen}
+use Rattle.aries.specs.Hits.{Made, noHit, andThen}
 use Rattle.aries.specs.Judging.{Judging, room}
 use Rattle.aries.specs.Macros.{isCounted, begun, Begun, begin}
 use Rattle.aries.specs.Program.{withProgress, isStoring, passOver, runBlockOutside, runLineOutside, runFrom}
-use Rattle.aries.proofs.Runs.{still-then}
+use Rattle.aries.proofs.Runs.{no-hit-then}
 use Rattle.text.specs.Lines.{lineLength, lineAt, lineEnd, blanks}
-use Rattle.text.proofs.Lines.{line-short, line-goes-on, feed-after, lines-at, lines-past, lines-blanks, blanks-go-on}
+use Rattle.text.proofs.Lines.{line-short, line-goes-on, feed-after, lines-at, lines-past, lines-blanks, blanks-go-on, first-byte}
 use Rattle.decode.specs.Decoding.{decodedAt}
 use Rattle.decode.proofs.Decoding.{decoded-instruction, decoded-refused}
-use Rattle.stretches.proofs.Macros.{begin-spent, begin-refused, begin-done}
-use Rattle.storing.proofs.FirstByte.{first-byte}
+use Rattle.aries.proofs.Calls.{begin-spent, begin-refused, begin-done}
 use Rattle.program.specs.Turns.{program, placed, linesFrom}
 
 -- whether the block at a place counts, by its first byte
@@ -39,7 +38,7 @@ countedAt t at = not (eqb (getD t at 0) letterV)
 
 module _ (j : Judging) (t : List ℕ) where
   -- nothing is left
-  pub text-end : (at line : ℕ) (p : Program) → length t ≤ at → linesFrom j t at line p ≡ still p
+  pub text-end : (at line : ℕ) (p : Program) → length t ≤ at → linesFrom j t at line p ≡ noHit p
   unfolding runFrom
   text-end at line p h = rw (lines-past t at h)
 
@@ -55,7 +54,7 @@ module _ (j : Judging) (t : List ℕ) where
   blank-lines (suc n) at line ls p =
       let a : at + 0 + 1 + n ≡ at + suc n = omega arith in
       let e : suc line + n ≡ line + suc n = omega arith in
-      still-then p (runFrom j t (at + 0 + 1) (suc line) (replicate n [] ++ ls))
+      no-hit-then p (runFrom j t (at + 0 + 1) (suc line) (replicate n [] ++ ls))
       ∙ blank-lines n (at + 0 + 1) (suc line) ls p
       ∙ ap (λ (k : ℕ). runFrom j t k (suc line + n) ls p) a
       ∙ ap (λ (k : ℕ). runFrom j t (at + suc n) k ls p) e
@@ -170,8 +169,8 @@ module _ (j : Judging) (t : List ℕ) where
         rest = linesFrom j t (lineEnd t at + 1) (line + 1)
 
         go : (v : Bool) → startsWith letterV (lineAt t at) ≡ v → andThen (passOver (lineAt t at) (program Storing s m g)) rest ≡ rest (program (cond v Running Storing) s m g)
-        go true w = let o : passOver (lineAt t at) (program Storing s m g) ≡ still (program Running s m g) = cc in rw o (still-then (program Running s m g) rest)
-        go false w = let o : passOver (lineAt t at) (program Storing s m g) ≡ still (program Storing s m g) = cc in rw o (still-then (program Storing s m g) rest)
+        go true w = let o : passOver (lineAt t at) (program Storing s m g) ≡ noHit (program Running s m g) = cc in rw o (no-hit-then (program Running s m g) rest)
+        go false w = let o : passOver (lineAt t at) (program Storing s m g) ≡ noHit (program Storing s m g) = cc in rw o (no-hit-then (program Storing s m g) rest)
 
     -- the V line ends that
     pub passed-close : getD t at 0 ≡ letterV → linesFrom j t (end + 1) (line + 1) (program Running s m g) ≡ linesFrom j t at line (program Storing s m g)

@@ -16,18 +16,17 @@ use Rattle.aries.specs.declared.state.Status.{Status}
 use Rattle.aries.specs.declared.state.Status.the-variants.{Passed, Refused}
 use Rattle.aries.specs.Outcome.{Out, done, refused, _>>=_}
 use Rattle.aries.specs.Text.{lines}
-use Rattle.aries.specs.Hits.{Hit, Made, still, adding, andThen, leaving}
+use Rattle.aries.specs.Hits.{Hit, Made, noHit, adding, andThen, mapAfter}
 use Rattle.aries.specs.Judging.{Judging, limits}
 use Rattle.aries.specs.Macros.{carryDirect, carry, Begun, begin}
 use Rattle.aries.specs.Program.{carryOut, runBlockOutside, runLineOutside, runFrom}
 use Rattle.aries.specs.Runs.{Lent, hitsMade, hitsOfProgram, Ran}
 use Rattle.aries.specs.Setup.{ordinaryFrame}
-use Rattle.aries.proofs.Runs.{ran-refused, ran-then, ran-leaving, still-then}
+use Rattle.aries.proofs.Runs.{ran-refused, ran-then, ran-map, no-hit-then, refused-out}
 use Rattle.stretches.specs.declared.Stop.{Stop}
 use Rattle.stretches.specs.declared.Stop.the-variants as Stop
 use Rattle.stretches.specs.Stretches.{Stretched, stepOf, blockStep, begunStep, lineStep, onward, stretch}
 use Rattle.stretches.proofs.Stops.{Behind, first-line}
-use Rattle.stretches.proofs.Stretches.{refused-out}
 use Rattle.program.specs.declared.turn.Next.the-variants as Next
 use Rattle.program.specs.declared.turn.Turn.{Turn}
 use Rattle.program.specs.Turns.{program, at, placed, linesFrom, leftOf, Comes, Beyond, Turns}
@@ -45,17 +44,17 @@ module _ (j : Judging) (t : List ℕ) (s : Setup) (m : Macros) where
 
   -- what follows a stretch
   abbrev pub following : Stop → Program → Out (Made Program)
-  following Stop.End p = still p
+  following Stop.End p = noHit p
   following (Stop.Call n end line) p = blockThen end line (Block.Call n) p
   following (Stop.Outside o end line) p = blockThen end line (Block.Outside o) p
 
   abbrev all : Stretched → Out (Made Program)
-  all x = andThen (leaving (program Running s m) (x .made)) (following (x .stop))
+  all x = andThen (mapAfter (program Running s m) (x .made)) (following (x .stop))
 
   adding-all : (hs : List Hit) (x : Stretched) → adding hs (all x) ≡ all (record { made = adding hs (x .made); stop = x .stop })
   adding-all hs x = go (x .made)
     where
-      go : (out : Out (Made Progress)) → adding hs (andThen (leaving (program Running s m) out) (following (x .stop))) ≡ andThen (leaving (program Running s m) (adding hs out)) (following (x .stop))
+      go : (out : Out (Made Progress)) → adding hs (andThen (mapAfter (program Running s m) out) (following (x .stop))) ≡ andThen (mapAfter (program Running s m) (adding hs out)) (following (x .stop))
       go (refused number line) = refl
       go (done n) = adding-again hs (n .hits) (following (x .stop) (program Running s m (n .after)))
 
@@ -69,14 +68,14 @@ module _ (j : Judging) (t : List ℕ) (s : Setup) (m : Macros) where
   line-all end line [] g later rest same past = ap (adding []) (same g) ∙ adding-all [] (later g)
   line-all end line (b ∷ bs) g later rest same past = begins (begin j line (b ∷ bs) g)
     where
-      carried : (out : Out (Made Progress)) → andThen (leaving (program Running s m) out) rest ≡ all (onward (stepOf out) later)
+      carried : (out : Out (Made Progress)) → andThen (mapAfter (program Running s m) out) rest ≡ all (onward (stepOf out) later)
       carried (done n) = ap (adding (n .hits)) (same (n .after)) ∙ adding-all (n .hits) (later (n .after))
       carried (refused number place) = refl
 
       stops : (d : Block) (g : Progress) → andThen (placed j t end line d (program Running s m g)) rest ≡ adding [] (blockThen end line d (program Running s m g))
       stops d g =
           ap (andThen (placed j t end line d (program Running s m g))) (fun-ext past)
-          ∙ sym (still-then (program Running s m g) (blockThen end line d))
+          ∙ sym (no-hit-then (program Running s m g) (blockThen end line d))
 
       blocks : (d : Block) (g : Progress) → andThen (placed j t end line d (program Running s m g)) rest ≡ all (onward (blockStep j (ordinaryFrame s) end line d g) later)
       blocks (Block.Direct d) g = carried (carryDirect j (ordinaryFrame s) line d g)
@@ -106,7 +105,7 @@ module _ (j : Judging) (t : List ℕ) (s : Setup) (m : Macros) where
   pub lines-stretched :
       (at line : ℕ) (g : Progress)
       → linesFrom j t at line (program Running s m g)
-      ≡ andThen (leaving (program Running s m) (stretch j (ordinaryFrame s) at line (lines (drop at t)) g .made)) (following (stretch j (ordinaryFrame s) at line (lines (drop at t)) g .stop))
+      ≡ andThen (mapAfter (program Running s m) (stretch j (ordinaryFrame s) at line (lines (drop at t)) g .made)) (following (stretch j (ordinaryFrame s) at line (lines (drop at t)) g .stop))
   lines-stretched at line g = lines-all (lines (drop at t)) at line g refl
 
 -- ---- A stretch that was carried out
@@ -141,8 +140,8 @@ module _ (t : List ℕ) (from line : ℕ) (s : Setup) (g : Progress) where
             → Ran hitsOfProgram (s .job) status end before last (g .hits) (linesFrom (limits (s .job)) t from line (program Running s m g))
         leads m status end last h =
             rw (lines-stretched (limits (s .job)) t s m from line g)
-            (ran-then (leaving (program Running s m) (here .made)) (following (limits (s .job)) t s m (here .stop))
-            (ran-leaving (program Running s m) (λ x. refl) (here .made) (rw e at ran))
+            (ran-then (mapAfter (program Running s m) (here .made)) (following (limits (s .job)) t s m (here .stop))
+            (ran-map (program Running s m) (λ x. refl) (here .made) (rw e at ran))
             (rw (same m, hits, f) at h))
 
   -- where it stopped lies further on

@@ -9,11 +9,11 @@ use Rattle.aries.specs.declared.setup.Stage.{Stage}
 use Rattle.aries.specs.declared.setup.Stage.the-variants.{Running}
 use Rattle.aries.specs.declared.state.Progress.{Progress}
 use Rattle.aries.specs.Outcome.{Out, refused}
-use Rattle.aries.specs.Hits.{Made, still, andThen}
+use Rattle.aries.specs.Hits.{Made, noHit, andThen}
 use Rattle.aries.specs.Judging.{Judging, limits}
 use Rattle.aries.specs.Runs.{Lent, hitsOfProgram, Ran}
 use Rattle.aries.specs.declared.setup.Program.{Program}
-use Rattle.aries.proofs.Runs.{still-then}
+use Rattle.aries.proofs.Runs.{no-hit-then}
 use Rattle.program.specs.declared.turn.Next.{Next}
 use Rattle.program.specs.declared.turn.Next.the-variants.{Line, Run, Open, Refused}
 use Rattle.program.specs.declared.turn.Turn.{Turn}
@@ -31,10 +31,10 @@ module _ {r : Turn} (end line : ℕ) (s : Setup) (g : Progress) (what : Judging 
   -- the lines behind it follow
   pub leaves-line :
       {stage : Stage} {s' : Setup} {g' : Progress} → r ≡ record { stage = stage; setup = s'; progress = g'; next = Line end line } → s' .job ≡ s .job
-      → g' .hits ≡ g .hits → ((t : List ℕ) (m : Macros) → what (limits (s .job)) t m ≡ still (program stage s' m g')) → Leaves r end line s g what
+      → g' .hits ≡ g .hits → ((t : List ℕ) (m : Macros) → what (limits (s .job)) t m ≡ noHit (program stage s' m g')) → Leaves r end line s g what
   leaves-line {stage} {s'} {g'} e i h o =
       rw e (record {
-        same = λ t m. rw (o t m, still-then (program stage s' m g') (linesFrom (limits (s .job)) t end line));
+        same = λ t m. rw (o t m, no-hit-then (program stage s' m g') (linesFrom (limits (s .job)) t end line));
         hits = h;
         job = i;
         comes = (refl, refl);

@@ -2,20 +2,20 @@ use crate::turn::Next;
 use crate::turn::Turn;
 use aries::block::Axes;
 use aries::point::Located;
-use aries::point::Place;
 use aries::point::Point;
+use aries::point::WidePoint;
 use aries::refusal;
 use aries::setup::Setup;
 use aries::setup::Sheet;
 use aries::state::Progress;
 ghost use mathlib.Core.Path.{_≡_};
 ghost use Rattle.aries.specs.Moves.{_⊕_};
-ghost use Rattle.aries.specs.Places.{pointOf};
+ghost use Rattle.aries.specs.WidePoints.{pointOf};
 ghost use Rattle.aries.specs.Setup.{referenceOf, offsetBy};
 ghost use Rattle.program.specs.Turns.{SetsOrigin};
 
 // Reference plus offset.
-fn origin_place(sheet: Sheet, offset: Point) -> Place
+fn origin_place(sheet: Sheet, offset: Point) -> WidePoint
     ensures { λ r. ⌜ pointOf r ≡ referenceOf sheet ⊕ offset ⌝ }
 {
     let reference = sheet.reference();
@@ -23,7 +23,7 @@ fn origin_place(sheet: Sheet, offset: Point) -> Place
     let y = reference.y;
     let offset_x = offset.x;
     let offset_y = offset.y;
-    Place {
+    WidePoint {
         x: signed::sum(x, offset_x),
         y: signed::sum(y, offset_y),
     }

@@ -17,8 +17,6 @@ ghost use Rattle.sine.specs.Sine.{
   turn,
   acute,
   turnSine,
-  sine,
-  cosine,
   directionOf,
   rounded,
   offset,
@@ -147,26 +145,6 @@ fn turn_sine(t: u32, degrees: &[u32; 91], sines: &[u32; 100], cosines: &[u32; 10
     ensures { λ r. ⌜ r ≡ turnSine t ⌝ }
 {
     signed::with_sign(18000 < t, quadrant_sine(acute(t), degrees, sines, cosines))
-}
-
-// The sine of any angle.
-pub fn sine(angle: i64) -> i32
-    ensures { λ r. ⌜ r ≡ sine angle ⌝ }
-{
-    let degrees = degree_sines();
-    let sines = hundredth_sines();
-    let cosines = hundredth_cosines();
-    turn_sine(turn(angle), &degrees, &sines, &cosines)
-}
-
-// The cosine of any angle. The angle is reduced first, so that nothing can overflow.
-pub fn cosine(angle: i64) -> i32
-    ensures { λ r. ⌜ r ≡ cosine angle ⌝ }
-{
-    let degrees = degree_sines();
-    let sines = hundredth_sines();
-    let cosines = hundredth_cosines();
-    turn_sine(complement(turn(angle)), &degrees, &sines, &cosines)
 }
 
 // Cosine and sine of one angle, which is reduced once. The tables are lent: a copy of them costs more than an angle.

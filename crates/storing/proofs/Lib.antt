@@ -1,6 +1,5 @@
 -- Laws that the functions' proofs cite.
 pub mod Tags
-pub mod FirstByte
 pub mod Closing
 pub mod Sizes
 pub mod Opening

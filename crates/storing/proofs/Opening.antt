@@ -13,7 +13,7 @@ use Rattle.aries.specs.declared.setup.Setup.{Setup}
 use Rattle.aries.specs.declared.state.Progress.{Progress}
 use Rattle.aries.specs.Outcome.{Out, refused, _>>=_, need}
 use Rattle.aries.specs.Text.{lines}
-use Rattle.aries.specs.Hits.{Made, still, leaving}
+use Rattle.aries.specs.Hits.{Made, noHit, mapAfter}
 use Rattle.aries.specs.Judging.{Judging}
 use Rattle.aries.specs.Macros.{Body, part, bodiesOf, storing, characters, mostCalls, call, runLines, runBody}
 use Rattle.aries.specs.Setup.{ordinaryFrame}
@@ -23,7 +23,7 @@ use Rattle.aries.specs.Bodies.{bodySize, mostCharacters, runsFirst, firstRun, b
 
 module _ (j : Judging) (text : List ℕ) (m : Macros) (n : ℕ) (b : Body) (s : Setup) (g : Progress) where
   -- only stored
-  pub runs-not : runsFirst n (s .sheet) ≡ false → firstRun j text m n b s g ≡ still g
+  pub runs-not : runsFirst n (s .sheet) ≡ false → firstRun j text m n b s g ≡ noHit g
   unfolding firstRun
   runs-not e = simp (firstRun, e)
 
@@ -46,7 +46,7 @@ module _ (j : Judging) (text : List ℕ) (n start line : ℕ) (ls : List (List �
     abbrev keep : Macros → Out (Made Store)
     keep k = do
       _ ← need (leb (characters k) mostCharacters) 12 line
-      leaving (withStored k) (firstRun j text (st .macros) n (bodyFrom text start size line) s (st .progress))
+      mapAfter (withStored k) (firstRun j text (st .macros) n (bodyFrom text start size line) s (st .progress))
 
     opened : openBody j text n start line ls s st ≡ keep kept
     unfolding openBody
@@ -62,6 +62,6 @@ module _ (j : Judging) (text : List ℕ) (n start line : ℕ) (ls : List (List �
     pub open-stored :
         characters kept ≤ mostCharacters
         → openBody j text n start line ls s st
-        ≡ leaving (withStored kept) (firstRun j text (st .macros) n (record { line = line + 1; bytes = take (start + size - start) (drop start text) }) s (st .progress))
+        ≡ mapAfter (withStored kept) (firstRun j text (st .macros) n (record { line = line + 1; bytes = take (start + size - start) (drop start text) }) s (st .progress))
     unfolding part
     open-stored h = rw (opened, add-one line) (simp (le-leb (characters kept) mostCharacters h))

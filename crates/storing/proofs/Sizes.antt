@@ -9,10 +9,9 @@ use lib.ListN.{length, getD, drop, length-take}
 use Rattle.aries.specs.Text.{lines}
 use Rattle.aries.specs.Bodies.{isOwnClose, longer, bodySize}
 use Rattle.text.specs.Lines.{lineLength, lineAt, lineEnd}
-use Rattle.text.proofs.Lines.{line-short, lines-at, lines-past}
+use Rattle.text.proofs.Lines.{line-short, lines-at, lines-past, first-byte}
 use Rattle.storing.specs.declared.Size.the-variants.{Bytes, Missing}
 use Rattle.storing.specs.Sizes.{marks, sizeOf, Sized}
-use Rattle.storing.proofs.FirstByte.{first-byte}
 
 -- ---- The line at a place
 

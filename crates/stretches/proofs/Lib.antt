@@ -1,4 +1,3 @@
-pub mod Macros
 pub mod Stretches
 pub mod Turns
 pub mod Stops

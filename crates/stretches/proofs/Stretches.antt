@@ -14,12 +14,12 @@ use Rattle.aries.specs.declared.state.Progress.{Progress}
 use Rattle.aries.specs.declared.state.Status.{Status}
 use Rattle.aries.specs.declared.state.Status.the-variants.{Passed, Refused}
 use Rattle.aries.specs.Outcome.{Out, done, refused}
-use Rattle.aries.specs.Hits.{Made, still, adding, andThen}
+use Rattle.aries.specs.Hits.{Made, noHit, adding, andThen}
 use Rattle.aries.specs.Judging.{Judging, limits}
 use Rattle.aries.specs.Macros.{begin}
 use Rattle.aries.specs.Runs.{statusOf, Lent, Ran, hitsMade}
 use Rattle.aries.specs.Text.{lines, lineFeed}
-use Rattle.aries.proofs.Runs.{ran-refused, ran-still, passed-done, Leads, leads-start, leads-as, leads-on}
+use Rattle.aries.proofs.Runs.{ran-refused, ran-no-hit, passed-done, Leads, leads-start, leads-as, leads-on}
 use Rattle.text.specs.Lines.{lineLength, blanks, lineAt, lineEnd}
 use Rattle.text.proofs.Lines.{line-short, line-goes-on, line-ends, feed-after, lines-at, lines-past, lines-blanks}
 use Rattle.stretches.specs.declared.Stop.{Stop}
@@ -30,8 +30,8 @@ use Rattle.stretches.specs.Stretches.{Stretched, refusedAt, endingWith, 
 -- ---- One step, and what follows
 
 -- nothing done, and then the rest
-onward-still : (g : Progress) (rest : Progress → Stretched) → onward (stepOf (still g)) rest ≡ rest g
-onward-still g rest = go (rest g)
+onward-no-hit : (g : Progress) (rest : Progress → Stretched) → onward (stepOf (noHit g)) rest ≡ rest g
+onward-no-hit g rest = go (rest g)
   where
     nothing : (out : Out (Made Progress)) → adding [] out ≡ out
     nothing (done m) = refl
@@ -61,7 +61,7 @@ module _ (j : Judging) (f : Frame) where
   blank-lines (suc n) at line ls g =
       let a : at + 0 + 1 + n ≡ at + suc n = omega arith in
       let b : suc line + n ≡ line + suc n = omega arith in
-      onward-still g (stretch j f (at + 0 + 1) (suc line) (replicate n [] ++ ls))
+      onward-no-hit g (stretch j f (at + 0 + 1) (suc line) (replicate n [] ++ ls))
       ∙ blank-lines n (at + 0 + 1) (suc line) ls g
       ∙ ap₂ (λ (a b : ℕ). stretch j f a b ls g) a b
 
@@ -89,7 +89,7 @@ module _ (j : Judging) (f : Frame) where
           let a : end + 0 + 1 ≡ end + 1 = omega arith in
           sym
           (ap (λ (ls : List (List ℕ)). stretch j f end line ls g) (lines-at t end i)
-          ∙ rw z (rw a (onward-still g (stretch j f (end + 1) (suc line) (lines (drop (end + 1) t))))))
+          ∙ rw z (rw a (onward-no-hit g (stretch j f (end + 1) (suc line) (lines (drop (end + 1) t))))))
       go false e =
           let i : length t ≤ end = ltb-false end (length t) e in
           rw (lines-past t (end + 1) (omega arith), lines-past t end i) refl
@@ -130,11 +130,6 @@ module _ (j : Judging) (f : Frame) where
 pub record StretchLeads (job : Job) (l : Lent) (k : ℕ) (rest : Stretched) (l₀ : Lent) (k₀ : ℕ) (whole : Stretched) : Type 0 where
   pub leads : Leads hitsMade job l k (rest .made) l₀ k₀ (whole .made)
   pub stop : rest .stop ≡ whole .stop
-
--- a status that is a refusal tells the refusal
-pub refused-out : {A : Type 0} (out : Out (Made A)) {number line : ℕ} → Refused number line ≡ statusOf out → out ≡ refused number line
-refused-out (refused n k) {number} {line} e = let a : number ≡ n = cc in let b : line ≡ k = cc in rw (a, b)
-refused-out (done m) e = let z : _≡_ {A = ℕ} 0 1 = cc in absurd (omega arith)
 
 module _ {job : Job} {l₀ : Lent} {k₀ : ℕ} {whole : Stretched} where
   pub lead-as : {l : Lent} {k : ℕ} {rest rest' : Stretched} → rest' ≡ rest → StretchLeads job l k rest' l₀ k₀ whole → StretchLeads job l k rest l₀ k₀ whole
@@ -185,4 +180,4 @@ module _ (r : Stretch) (f : Frame) (before : Lent) (g : Progress) (what : Judgin
       → rest ≡ endingWith now stop → StretchLeads (f .job) l (now .hits) rest before (g .hits) whole → Stretches r f before l g what
   stretch-ended {l} {now} e s lead =
       let lead' = rw s at lead in
-      rw e (record { ran = lead' .leads Passed now l ran-still; stopped = lead' .stop })
+      rw e (record { ran = lead' .leads Passed now l ran-no-hit; stopped = lead' .stop })

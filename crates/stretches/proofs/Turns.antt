@@ -29,7 +29,7 @@ use Rattle.decode.specs.Decoding.{decodedAt}
 use Rattle.decode.proofs.Decoding.{decoded-instruction, decoded-refused}
 use Rattle.stretches.specs.declared.Stop.the-variants as Stop
 use Rattle.stretches.specs.Stretches.{Stretched, refusedAt, endingWith, stepOf, blockStep, begunStep, onward, stretch}
-use Rattle.stretches.proofs.Macros.{begin-spent, begin-refused, begin-done}
+use Rattle.aries.proofs.Calls.{begin-spent, begin-refused, begin-done}
 use Rattle.stretches.proofs.Stretches.{stretch-block}
 
 -- the code's test for one block too many

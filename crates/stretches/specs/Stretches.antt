@@ -11,7 +11,7 @@ use Rattle.aries.specs.declared.block.Block.the-variants as Block
 use Rattle.aries.specs.declared.state.Frame.{Frame}
 use Rattle.aries.specs.declared.state.Progress.{Progress}
 use Rattle.aries.specs.Outcome.{Out, done, refused}
-use Rattle.aries.specs.Hits.{Hit, Made, still, adding}
+use Rattle.aries.specs.Hits.{Hit, Made, noHit, adding}
 use Rattle.aries.specs.Judging.{Judging, limits}
 use Rattle.aries.specs.Macros.{carryDirect, Begun, begin}
 use Rattle.aries.specs.Runs.{Lent, Ran, hitsMade}
@@ -28,7 +28,7 @@ abbrev pub refusedAt : ℕ → ℕ → Stretched
 refusedAt number line = record { made = refused number line; stop = Stop.End }
 
 abbrev pub endingWith : Progress → Stop → Stretched
-endingWith g stop = record { made = still g; stop = stop }
+endingWith g stop = record { made = noHit g; stop = stop }
 
 -- what one line comes to: the stretch goes on past it, or ends
 pub data Step : Type 0 where

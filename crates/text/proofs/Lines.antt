@@ -12,7 +12,7 @@ use lib.ListN.{length, take, drop, getD, replicate, drop-of-length-le, length-dr
 use lib.Seq.{drop-cons, drop-drop, getD-drop}
 use borrow.Author.Tests.{eq-eqb, ne-eqb, eqb-true, eqb-false, le-leb, not-true}
 use Rattle.aries.specs.Text.{lineFeed, lines, intoFirst}
-use Rattle.text.specs.Lines.{countUntil, isFeed, isOther, lineLength, blanks}
+use Rattle.text.specs.Lines.{countUntil, isFeed, isOther, lineLength, lineAt, blanks}
 
 -- ---- the bytes before the first that passes a test
 
@@ -286,3 +286,18 @@ next-stop t from next e h f =
     let k : blanks d < length d = simp length-drop (omega arith) in
     eqb-false (getD d (blanks d) 0) lineFeed (not-true (isFeed (getD d (blanks d) 0)) (until-stop isOther d k))
     (getD-drop from t (blanks d) 0 ∙ ap (λ (n : ℕ). getD t n 0) (sym e) ∙ f)
+
+-- ---- The first byte of a line
+
+-- A blank line starts with no byte and stands where the text has a line feed: a test that fails of both is alike of the
+-- line and of the text.
+pub first-byte :
+    (test : ℕ → Bool) → test 0 ≡ false → test lineFeed ≡ false → (t : List ℕ) (at : ℕ) → at < length t
+    → test (getD (lineAt t at) 0 0) ≡ test (getD t at 0)
+first-byte test none feed t at h = go (eqb (getD t at 0) lineFeed) refl
+  where
+    go : (b : Bool) → eqb (getD t at 0) lineFeed ≡ b → test (getD (lineAt t at) 0 0) ≡ test (getD t at 0)
+    go true e =
+        let f : getD t at 0 ≡ lineFeed = eqb-true (getD t at 0) lineFeed e in
+        rw (line-ends t at h f, f) (none ∙ sym feed)
+    go false e = rw (line-goes-on t at h (eqb-false (getD t at 0) lineFeed e), drop-cons t at 0 h)

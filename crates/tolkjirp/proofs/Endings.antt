@@ -20,8 +20,7 @@ use Rattle.aries.specs.Hits.{Hit, Made}
 use Rattle.aries.specs.Judging.{lending, limits}
 use Rattle.aries.specs.Program.{freshProgram, isEnded, runFrom, perform, expand, listOf}
 use Rattle.aries.specs.Runs.{Lent, lent, hitsOfProgram, Ran}
-use Rattle.aries.proofs.Runs.{Done, passed-done}
-use Rattle.stretches.proofs.Stretches.{refused-out}
+use Rattle.aries.proofs.Runs.{Done, passed-done, refused-out}
 use Rattle.text.specs.declared.Cleaned.the-variants.{Stray, Dense}
 use Rattle.text.specs.Cleaning.{cleaned}
 use Rattle.tolkjirp.specs.Answers.{Answers}

@@ -20,7 +20,7 @@ use Rattle.aries.specs.Judging.{Judging, limits}
 use Rattle.aries.specs.Macros.{Body, part, Bodies, bodiesOf, Calls, runLines, call, runBody}
 use Rattle.aries.specs.Runs.{lent, hitsMade, Ran}
 use Rattle.aries.specs.Text.{lines}
-use Rattle.aries.proofs.Runs.{Leads, leads-start, leads-as, leads-on, leads-out, leads-end, ran-refused}
+use Rattle.aries.proofs.Runs.{Leads, leads-start, leads-as, leads-on, leads-out, leads-end, ran-refused, status-as, passed-as}
 use Rattle.aries.proofs.Carried.{carried-refused}
 use Rattle.text.proofs.Lines.{blanks-short}
 use Rattle.stretches.specs.declared.Stop.{Stop}
@@ -29,9 +29,9 @@ use Rattle.stretches.specs.Stretches.{Stretched, stretch, LinesFit}
 use Rattle.stretches.proofs.Stops.{Behind, Stops, stretch-stops}
 use Rattle.bodies.specs.declared.Opening.{Opening}
 use Rattle.bodies.specs.Rest.{rest, RestFits}
-use Rattle.bodies.proofs.Lines.{lines-stretched, status-as, passed-as}
+use Rattle.bodies.proofs.Lines.{lines-stretched, body-opened}
 use Rattle.bodies.proofs.Rest.{rest-fits, restSize, rest-less, size-call, lines-over, lines-left, left-fits}
-use Rattle.bodies.proofs.Calls.{body-missing, body-found, clipped, clipped-within, part-clipped, call-missing, call-deep, call-body, body-opened}
+use Rattle.aries.proofs.Calls.{body-missing, body-found, clipped, clipped-within, part-clipped, call-missing, call-deep, call-body}
 use borrow.Fn.Kinds.{In}
 use borrow.Fn.PlainCycle.{Measures, is, falls, and}
 use Rattle.bodies.proofs.run_blocks.Reads as run-blocks

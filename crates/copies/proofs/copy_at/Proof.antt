@@ -12,12 +12,12 @@ use Rattle.aries.specs.Judging.{Judging, limits, near}
 use Rattle.aries.specs.Layouts.{Part, copyStart, copy}
 use Rattle.aries.specs.Macros.{bodiesOf, Calls, call, mostCalls}
 use Rattle.aries.specs.Moves.{withState}
-use Rattle.aries.specs.Places.{pointOf}
+use Rattle.aries.specs.WidePoints.{pointOf}
 use Rattle.aries.specs.Runs.{Lent, lent, Carried}
 use Rattle.aries.specs.Setup.{frameAt}
 use Rattle.aries.proofs.Carried.{carried-refused}
 use Rattle.bodies.proofs.Rest.{lines-over, lines-left, left-fits}
-use Rattle.placing.proofs.Located.{at-passed, far-failed}
+use Rattle.aries.proofs.WidePoints.{at-passed, far-failed}
 use Rattle.copies.specs.Copying.{openedPart}
 use Rattle.copies.proofs.CopyAll.{copy-far, copy-carried}
 use Rattle.copies.proofs.copy_at.Statement.{statement}

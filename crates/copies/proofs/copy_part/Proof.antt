@@ -10,7 +10,7 @@ use Rattle.aries.specs.Layouts.{copyPart}
 use Rattle.aries.specs.Macros.{foundIn, bodiesOf}
 use Rattle.aries.specs.Setup.{ordinaryFrame}
 use Rattle.aries.proofs.Carried.{carried-refused}
-use Rattle.bodies.proofs.Calls.{clipped, clipped-within, part-clipped}
+use Rattle.aries.proofs.Calls.{clipped, clipped-within, part-clipped}
 use Rattle.copies.proofs.CopyPart.{part-missing, part-plain, part-copied}
 use Rattle.copies.proofs.copy_part.Statement.{statement}
 use Rattle.copies.proofs.copy_part.Tie as tie

@@ -1,8 +1,8 @@
 -- By the answer of `located`. Assumes nothing.
 use borrow.Author.Needs.{needs}
 use mathlib.Core.Path.{sym, _∙_}
-use Rattle.aries.specs.Places.{pointOf}
-use Rattle.placing.proofs.Located.{at-passed, far-failed}
+use Rattle.aries.specs.WidePoints.{pointOf}
+use Rattle.aries.proofs.WidePoints.{at-passed, far-failed}
 use Rattle.placing.proofs.is_near.Statement.{statement}
 use Rattle.placing.proofs.is_near.Tie as tie
 

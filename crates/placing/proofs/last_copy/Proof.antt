@@ -6,7 +6,7 @@ use Prim.Native.Nat.{_-_}
 use native.Mathlib.Omega.{arith}
 use Rattle.aries.specs.declared.point.Located.the-variants.{At, TooFar}
 use Rattle.aries.specs.Layouts.{copyCount, copyPlace}
-use Rattle.aries.specs.Places.{located}
+use Rattle.aries.specs.WidePoints.{located}
 use Rattle.lanes.specs.Cursors.{passed}
 use Rattle.placing.specs.Places.{laneEnd, allNear}
 use Rattle.placing.proofs.AllNear.{all-near}

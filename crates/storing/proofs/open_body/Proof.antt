@@ -9,7 +9,7 @@ use Rattle.aries.specs.Bodies.{bodySize, firstRun, withStored}
 use Rattle.aries.specs.Judging.{limits}
 use Rattle.aries.specs.Macros.{characters}
 use Rattle.aries.specs.Text.{lines}
-use Rattle.aries.proofs.Runs.{ran-refused, ran-leaving}
+use Rattle.aries.proofs.Runs.{ran-refused, ran-map}
 use Rattle.storing.proofs.Sizes.{size-found, size-missing}
 use Rattle.storing.proofs.Opening.{open-unclosed, open-full, open-stored}
 use Rattle.storing.proofs.open_body.Statement.{statement}
@@ -53,7 +53,7 @@ returns-3 c =
     let a = entry b .args in
     rw (open-stored (limits (a .setup .job)) (a .text .now) (a .number) (a .start) (a .line) (lines (drop (a .start) (a .text .now))) (a .setup) (withStored (a .macros) (a .progress))
     (m .result) (size b) (found b) (m .ensures) (omega (arith, k .characters .ensures, r .before .before .before .if1 .left)))
-    (ran-leaving (withStored (m .result)) (λ g. refl) (firstRun (limits (a .setup .job)) (a .text .now) (a .macros) (a .number) (record { line = a .line + 1; bytes = take (a .start + size b - a .start) (drop (a .start) (a .text .now)) }) (a .setup) (a .progress))
+    (ran-map (withStored (m .result)) (λ g. refl) (firstRun (limits (a .setup .job)) (a .text .now) (a .macros) (a .number) (record { line = a .line + 1; bytes = take (a .start + size b - a .start) (drop (a .start) (a .text .now)) }) (a .setup) (a .progress))
     (r .first-run .ensures))
 
 pub open-body-spec : {M : Type 1} → statement M

@@ -24,7 +24,8 @@ use Rattle.text.proofs.Lines.{line-goes-on, line-inside, blanks-inside, blanks-
 use Rattle.decode.specs.Decoding.{decodedAt}
 use Rattle.decode.proofs.Decoding.{decoded-instruction}
 use Rattle.stretches.specs.Stretches.{Stretched, stepOf, onward, stretch}
-use Rattle.stretches.proofs.Stretches.{refused-out, StretchLeads, lead-as, lead-start, lead-skip, lead-on, stretch-refused, stretch-ended, stretch-end}
+use Rattle.stretches.proofs.Stretches.{StretchLeads, lead-as, lead-start, lead-skip, lead-on, stretch-refused, stretch-ended, stretch-end}
+use Rattle.aries.proofs.Runs.{refused-out}
 use Rattle.stretches.proofs.Turns.{turn-spent, turn-refused, turn-direct, turn-call, turn-outside, counted-room}
 use Rattle.stretches.proofs.run_stretch.Statement.{statement}
 use Rattle.stretches.proofs.run_stretch.Tie as tie

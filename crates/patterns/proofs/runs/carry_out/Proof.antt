@@ -8,7 +8,7 @@ use Rattle.aries.specs.declared.state.Frame.{Frame}
 use Rattle.aries.specs.declared.state.Progress.{Progress}
 use Rattle.aries.specs.Judging.{limits}
 use Rattle.aries.specs.Moves.{dropping, withState}
-use Rattle.aries.specs.Patterns.{reaches, startOf, starting, pattern}
+use Rattle.aries.specs.Patterns.{reachIsNear, startOf, starting, pattern}
 use Rattle.aries.proofs.Carried.{carried-refused}
 use Rattle.patterns.specs.Series.{series}
 use borrow.Author.Needs.{needs}
@@ -16,17 +16,17 @@ use Rattle.patterns.proofs.runs.carry_out.Statement.{statement}
 use Rattle.patterns.proofs.runs.carry_out.Tie as tie
 
 -- the reach was judged
-in-reach : (c : tie.Else1) → reaches (c .before .before .args .pattern) ≡ true
-in-reach c = sym (c .before .reaches .ensures) ∙ not-false (c .before .reaches .result) (c .if1 .left)
+in-reach : (c : tie.Else1) → reachIsNear (c .before .before .args .pattern) ≡ true
+in-reach c = sym (c .before .reach-is-near .ensures) ∙ not-false (c .before .reach-is-near .result) (c .if1 .left)
 
 -- a pattern whose reach passes is its series
-is-series : (f : Frame) (line : ℕ) (p : Pattern) (g : Progress) → reaches p ≡ true
+is-series : (f : Frame) (line : ℕ) (p : Pattern) (g : Progress) → reachIsNear p ≡ true
     → pattern (limits (f .job)) f line p g ≡ series f p (startOf (g .state)) line (starting g)
 unfolding pattern
 is-series f line p g e = simp e
 
-reaches-requires : tie.Need-reaches-requires
-reaches-requires c κs = search needs
+reach-is-near-requires : tie.Need-reach-is-near-requires
+reach-is-near-requires c κs = search needs
 
 refused-requires : tie.Need-refused-requires
 refused-requires c κs = search needs
@@ -37,7 +37,7 @@ returns c =
     let d = c .before .before in
     let a = d .before .args in
     carried-refused (a .frame) (λ j. pattern j (a .frame) (a .line) (a .pattern)) {g = a .progress} (c .refused .ensures)
-    (simp (sym (d .reaches .ensures) ∙ not-true (d .reaches .result) (c .before .if1 .taken)))
+    (simp (sym (d .reach-is-near .ensures) ∙ not-true (d .reach-is-near .result) (c .before .if1 .taken)))
 
 start-requires : tie.Need-start-requires
 start-requires c κs = search needs
@@ -71,7 +71,7 @@ pub carry-out-spec : {M : Type 1} → statement M
 carry-out-spec =
     tie.close
     (tie.spec
-    reaches-requires
+    reach-is-near-requires
     refused-requires
     returns
     start-requires

@@ -9,8 +9,8 @@ use Rattle.lanes.specs.Cursors.{cursorAt, passed}
 use Rattle.lanes.proofs.Cursors.{passed-at, at-zero, rest-within, lane-least}
 use Rattle.aries.specs.declared.block.Pattern.the-variants.{Grid}
 use Rattle.aries.specs.Moves.{_⊕_}
-use Rattle.aries.specs.Patterns.{gridOffset, hole, holes}
-use Rattle.aries.specs.Places.{pointOf}
+use Rattle.aries.specs.Patterns.{gridOffset, hitOffset, hitCount}
+use Rattle.aries.specs.WidePoints.{pointOf}
 use Rattle.aries.specs.Runs.{lent}
 use Rattle.patterns.proofs.Comes.{Series, seriesOf, UnderWay, under-start, under-next, under-refused, under-end}
 use Rattle.patterns.proofs.Holes.{lane-small}
@@ -32,19 +32,19 @@ abbrev μ-loop : tie.MeasureT-loop
 abbrev entry : tie.At-loop Inv-loop μ-loop → tie.Start Inv-loop μ-loop
 entry c = c .before .before .before .before
 
-abbrev grid : tie.After-grid-holes Inv-loop μ-loop → Series
+abbrev grid : tie.After-grid-hits Inv-loop μ-loop → Series
 grid c =
     let a = c .before .args in
-    seriesOf (a .frame) (a .tooling) (Grid (a .vertical) (a .pitch) (a .steps)) (a .start) (a .hits) (lent (a .list .now)) (c .grid-holes .result)
+    seriesOf (a .frame) (a .tooling) (Grid (a .vertical) (a .pitch) (a .steps)) (a .start) (a .hits) (lent (a .list .now)) (c .grid-hits .result)
 
 -- the steps are of 16 bits
 steps-fit : (c : tie.Start Inv-loop μ-loop) → (c .args .steps .x < 65536) × (c .args .steps .y < 65536)
 steps-fit c = (omega arith, omega arith)
 
 -- the count of the loop is the grid's
-count-is : (c : tie.After-grid-holes Inv-loop μ-loop) → c .grid-holes .result ≡ holes (grid c .pattern)
-unfolding holes
-count-is c = c .grid-holes .ensures
+count-is : (c : tie.After-grid-hits Inv-loop μ-loop) → c .grid-hits .result ≡ hitCount (grid c .pattern)
+unfolding hitCount
+count-is c = c .grid-hits .ensures
 
 -- the cursor goes to the next place
 next-is : (c : tie.After-next Inv-loop μ-loop) → c .next .result ≡ cursorAt (c .before .before .before .before .lane-end .result) (suc (c .before .before .loop .k))
@@ -57,13 +57,13 @@ next-is c =
 abbrev turn : tie.After-grid-place Inv-loop μ-loop → tie.In-loop Inv-loop μ-loop
 turn c = c .before .before
 
-abbrev counted : tie.At-loop Inv-loop μ-loop → tie.After-grid-holes Inv-loop μ-loop
+abbrev counted : tie.At-loop Inv-loop μ-loop → tie.After-grid-hits Inv-loop μ-loop
 counted c = c .before .before .before
 
 -- the place of a hit
 place-is : (c : tie.After-grid-place Inv-loop μ-loop)
-    → pointOf (c .grid-place .result) ≡ grid (counted (turn c .before)) .start ⊕ hole (grid (counted (turn c .before)) .pattern) (turn c .before .loop .k)
-unfolding hole
+    → pointOf (c .grid-place .result) ≡ grid (counted (turn c .before)) .start ⊕ hitOffset (grid (counted (turn c .before)) .pattern) (turn c .before .loop .k)
+unfolding hitOffset
 place-is c =
     let l = turn c .before in
     let a = entry l .args in
@@ -90,7 +90,7 @@ grid-place-requires c κs =
     let l = c .before .before in
     let e = entry l in
     let last = l .before .before .lane-end in
-    let small = lane-small (e .args .vertical) (e .args .steps) (last .result) (l .loop .k) (last .ensures) (omega (arith, counted l .grid-holes .ensures)) (steps-fit e .0) (steps-fit e .1) in
+    let small = lane-small (e .args .vertical) (e .args .steps) (last .result) (l .loop .k) (last .ensures) (omega (arith, counted l .grid-hits .ensures)) (steps-fit e .0) (steps-fit e .1) in
     omega (arith, last .ensures, ap (λ (d : Cursor). d .rest) (next-is c), ap (λ (d : Cursor). d .lane) (next-is c), rest-within (last .result) (suc (l .loop .k)))
 
 returns : tie.Need-returns Inv-loop μ-loop

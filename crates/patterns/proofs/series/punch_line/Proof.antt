@@ -9,12 +9,12 @@ use mir.Facts.{toZ-ofZ}
 use Rattle.aries.specs.declared.point.Point.{Point}
 use Rattle.aries.specs.declared.block.Pattern.the-variants.{Line}
 use Rattle.aries.specs.Moves.{_⊕_}
-use Rattle.aries.specs.Patterns.{hole, holes}
-use Rattle.aries.specs.Places.{pointOf}
+use Rattle.aries.specs.Patterns.{hitOffset, hitCount}
+use Rattle.aries.specs.WidePoints.{pointOf}
 use Rattle.aries.specs.Runs.{lent}
 use Rattle.patterns.proofs.Comes.{Series, seriesOf, UnderWay, under-start, under-next, under-refused, under-end}
 use Rattle.patterns.proofs.Holes.{nearer}
-use Rattle.patterns.proofs.Offsets.{hole-line}
+use Rattle.patterns.proofs.Offsets.{offset-line}
 use borrow.Author.Needs.{needs}
 use Rattle.patterns.proofs.series.punch_line.Statement.{statement}
 use Rattle.patterns.proofs.series.punch_line.Tie as tie
@@ -39,11 +39,11 @@ line c =
 
 -- the place of a hit
 place-is : (c : tie.After-line-place Inv-loop μ-loop)
-    → pointOf (c .line-place .result) ≡ line (entry (c .before .before)) .start ⊕ hole (line (entry (c .before .before)) .pattern) (c .before .before .loop .k)
+    → pointOf (c .line-place .result) ≡ line (entry (c .before .before)) .start ⊕ hitOffset (line (entry (c .before .before)) .pattern) (c .before .before .loop .k)
 place-is c =
     let l = c .before .before in
     let s = line (entry l) in
-    (rw (l .before .line-direction .ensures) at (c .line-place .ensures)) ∙ ap (λ (q : Point). s .start ⊕ q) (hole-line _ _ (s .count) (l .loop .k))
+    (rw (l .before .line-direction .ensures) at (c .line-place .ensures)) ∙ ap (λ (q : Point). s .start ⊕ q) (offset-line _ _ (s .count) (l .loop .k))
 
 loop-holds : tie.Need-loop-holds Inv-loop μ-loop
 loop-holds c =
@@ -55,7 +55,7 @@ line-place-requires c κs =
     simp (toZ-ofZ (e .fits .pitch)) (nearer (c .before .loop .k + 1) (e .args .count) (e .args .pitch) (omega arith) (e .pre))
 
 returns : tie.Need-returns Inv-loop μ-loop
-unfolding holes
+unfolding hitCount
 returns c =
     let h = c .before .before .before in
     let i = h .before .before .before in
@@ -72,7 +72,7 @@ loop-again c =
     )
 
 returns-2 : tie.Need-returns-2 Inv-loop μ-loop
-unfolding holes
+unfolding hitCount
 returns-2 c =
     let l = c .before in
     let e = entry l in

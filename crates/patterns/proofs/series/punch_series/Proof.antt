@@ -2,16 +2,16 @@
 use mathlib.Core.Path.{sym, ap, _∙_}
 use mir.Syntax.{w32}
 use Rattle.signed.proofs.Integers.{read-back}
-use Rattle.aries.specs.Patterns.{reaches}
+use Rattle.aries.specs.Patterns.{reachIsNear}
 use borrow.Author.Needs.{needs}
 use Rattle.patterns.proofs.series.punch_series.Statement.{statement}
 use Rattle.patterns.proofs.series.punch_series.Tie as tie
 
 punch-line-requires : tie.Need-punch-line-requires
-unfolding reaches
+unfolding reachIsNear
 punch-line-requires c κs =
     let p = c .before .before in
-    simp (read-back w32 (p .pattern .given .0 .0) (c .before .known-told .given .0 .1)) (sym (ap reaches (p .pattern .given .1)) ∙ p .before .before .pre)
+    simp (read-back w32 (p .pattern .given .0 .0) (c .before .known-told .given .0 .1)) (sym (ap reachIsNear (p .pattern .given .1)) ∙ p .before .before .pre)
 
 returns : tie.Need-returns
 returns c =

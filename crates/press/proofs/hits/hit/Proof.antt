@@ -5,11 +5,11 @@ use native.Mathlib.Omega.{arith}
 use lib.Dec.{ltb}
 use borrow.Author.Tests.{lt-ltb, le-ltb, not-true, not-false}
 use Rattle.aries.specs.declared.point.Point.{Point}
-use Rattle.aries.specs.Places.{pointOf}
+use Rattle.aries.specs.WidePoints.{pointOf}
 use Rattle.aries.specs.Machine.{inRange}
 use Rattle.aries.specs.Judging.{near}
 use Rattle.press.specs.declared.hits.Judged.the-variants.{Refused}
-use Rattle.press.proofs.Located.{located-at, located-far}
+use Rattle.aries.proofs.WidePoints.{located-at, located-far}
 use Rattle.press.specs.Hits.{judgedHit}
 use borrow.Author.Needs.{needs}
 use Rattle.press.proofs.hits.hit.Statement.{statement}

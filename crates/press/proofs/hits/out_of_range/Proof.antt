@@ -1,7 +1,7 @@
 -- What 15 makes of the place tells the two apart. Assumes nothing.
 use mathlib.Core.Path.{sym, _∙_}
-use Rattle.aries.specs.Places.{pointOf}
-use Rattle.press.proofs.Located.{located-at, located-far}
+use Rattle.aries.specs.WidePoints.{pointOf}
+use Rattle.aries.proofs.WidePoints.{located-at, located-far}
 use borrow.Author.Needs.{needs}
 use Rattle.press.proofs.hits.out_of_range.Statement.{statement}
 use Rattle.press.proofs.hits.out_of_range.Tie as tie

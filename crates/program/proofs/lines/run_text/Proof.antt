@@ -11,7 +11,7 @@ use Rattle.aries.specs.Judging.{limits}
 use Rattle.aries.specs.Program.{withStore, carryOut, carryOutside}
 use Rattle.aries.specs.Runs.{lent, hitsOfProgram, Ran}
 use Rattle.aries.specs.Text.{lines}
-use Rattle.aries.proofs.Runs.{ran-leaving}
+use Rattle.aries.proofs.Runs.{ran-map}
 use Rattle.program.specs.declared.turn.Next.{Next}
 use Rattle.program.specs.Turns.{at, carried, blockOf, Comes, Beyond}
 use Rattle.program.proofs.Underway.{Underway, underway-start, underway-end, comes-at, turn-refused, turn-line, block-refused, block-passed}
@@ -96,7 +96,7 @@ opened c =
     let r = t .run-turn .result in
     let text = entry t .args .text .now in
     let m = head t .loop .macros in
-    ran-leaving (withStore (at r m)) (λ x. refl) (openBody (limits (r .setup .job)) text (n .0 .0) (n .0 .1 .0 + 1) (n .0 .1 .1 .0) (lines (drop (n .0 .1 .0 + 1) text)) (r .setup) (withStored m (r .progress))) (c .open-body .ensures)
+    ran-map (withStore (at r m)) (λ x. refl) (openBody (limits (r .setup .job)) text (n .0 .0) (n .0 .1 .0 + 1) (n .0 .1 .1 .0) (lines (drop (n .0 .1 .0 + 1) text)) (r .setup) (withStored m (r .progress))) (c .open-body .ensures)
 
 returns-3 : tie.Need-returns-3 Inv-loop μ-loop
 returns-3 c =

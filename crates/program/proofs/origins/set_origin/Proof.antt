@@ -7,8 +7,8 @@ use Rattle.aries.specs.Judging.{near}
 use Rattle.aries.specs.Moves.{_⊕_}
 use Rattle.aries.specs.Program.{settled}
 use Rattle.aries.specs.Setup.{referenceOf, setOrigin}
-use Rattle.aries.specs.Places.{located}
-use Rattle.press.proofs.Located.{located-at, located-far}
+use Rattle.aries.specs.WidePoints.{located}
+use Rattle.aries.proofs.WidePoints.{located-at, located-far}
 use Rattle.program.specs.Turns.{program}
 use Rattle.program.proofs.Turns.{leaves-refused, leaves-line}
 use Rattle.program.proofs.Placed.{origin-far, origin-near}

@@ -6,7 +6,7 @@ use Rattle.aries.specs.declared.state.Progress.{Progress}
 use Rattle.aries.specs.declared.state.Status.the-variants.{Passed}
 use Rattle.aries.specs.Macros.{carryDirect}
 use Rattle.aries.specs.Moves.{withState, dropping, inMode}
-use Rattle.aries.proofs.Carried.{carried-still}
+use Rattle.aries.proofs.Carried.{carried-no-hit}
 use Rattle.stretches.proofs.direct.carry_direct.Statement.{statement}
 use Rattle.stretches.proofs.direct.carry_direct.Tie as tie
 
@@ -37,7 +37,7 @@ returns-6 c =
     let a = told .before .before .args in
     let e = c .before .with-state .ensures ∙ ap (withState (a .progress)) (c .before .before .dropping .ensures) in
     rw (told .enum-told .given .1)
-    (carried-still (a .frame) (λ j. carryDirect j (a .frame) (a .line) Lone) {g = a .progress} (c .passed .ensures ∙ ap (λ (p : Progress). record { status = Passed; progress = p }) e) refl refl)
+    (carried-no-hit (a .frame) (λ j. carryDirect j (a .frame) (a .line) Lone) {g = a .progress} (c .passed .ensures ∙ ap (λ (p : Progress). record { status = Passed; progress = p }) e) refl refl)
 
 returns-7 : tie.Need-returns-7
 unfolding carryDirect
@@ -47,13 +47,13 @@ returns-7 c =
     let b = told .block6 .given in
     let e = c .before .with-state2 .ensures ∙ ap (withState (a .progress)) (c .before .before .in-mode .ensures) in
     rw (b .1)
-    (carried-still (a .frame) (λ j. carryDirect j (a .frame) (a .line) (Nibble (b .0 .0))) {g = a .progress} (c .passed2 .ensures ∙ ap (λ (p : Progress). record { status = Passed; progress = p }) e) refl refl)
+    (carried-no-hit (a .frame) (λ j. carryDirect j (a .frame) (a .line) (Nibble (b .0 .0))) {g = a .progress} (c .passed2 .ensures ∙ ap (λ (p : Progress). record { status = Passed; progress = p }) e) refl refl)
 
 returns-8 : tie.Need-returns-8
 unfolding carryDirect
 returns-8 c =
     let a = c .before .before .before .args in
-    rw (c .before .enum-told2 .given .1) (carried-still (a .frame) (λ j. carryDirect j (a .frame) (a .line) Idle) (c .passed3 .ensures) refl refl)
+    rw (c .before .enum-told2 .given .1) (carried-no-hit (a .frame) (λ j. carryDirect j (a .frame) (a .line) Idle) (c .passed3 .ensures) refl refl)
 
 pub carry-direct-spec : {M : Type 1} → statement M
 carry-direct-spec =

@@ -1,26 +1,23 @@
--- Laws of calls: what is found of a macro, the body that is cut out of the text, and what the call comes to.
+-- Laws of macros: how a block begins, the bodies that are stored, the part of a text that is one, and calls.
 use mathlib.Core.Path.{_≡_, refl, sym, ap, _∙_}
 use mathlib.Core.Bool.{Bool, true, false, cond}
-use mathlib.Core.List.{List, []}
-use mathlib.Core.Option.{Option, none, some}
-use Prim.Native.Nat.{ℕ, zero, suc, _+_, _-_, _<_, _≤_}
+use mathlib.Core.List.{List}
+use mathlib.Core.Option.{none, some}
+use Prim.Native.Nat.{ℕ, zero, suc, _-_, _<_, _≤_}
 use native.Mathlib.Omega.{arith}
 use borrow.Author.Tests.{ltb-true, ltb-false}
 use lib.Dec.{ltb}
 use lib.ListN.{length, take, drop, length-drop}
 use lib.Seq.{take-all}
+use Rattle.aries.specs.declared.block.Instruction.{Instruction}
 use Rattle.aries.specs.declared.macros.Macros.{Macros}
-use Rattle.aries.specs.declared.macros.Found.{Found}
 use Rattle.aries.specs.declared.macros.Found.the-variants as Found
 use Rattle.aries.specs.declared.state.Frame.{Frame}
 use Rattle.aries.specs.declared.state.Progress.{Progress}
-use Rattle.aries.specs.Outcome.{refused}
+use Rattle.aries.specs.Outcome.{done, refused, passes, fails}
 use Rattle.aries.specs.Judging.{Judging}
-use Rattle.aries.specs.Text.{lines}
-use Rattle.aries.specs.Macros.{Body, part, Bodies, bodyAt, bodiesOf, foundIn, Calls, runLines, call, runBody}
-use Rattle.bodies.specs.declared.Opening.{Opening}
-use Rattle.bodies.specs.Opening.{Opens}
-use Rattle.bodies.proofs.Lines.{lines-skip}
+use Rattle.aries.specs.Blocks.{decode}
+use Rattle.aries.specs.Macros.{Body, part, Bodies, bodyAt, bodiesOf, foundIn, mayCome, begunBy, begin, call, runBody}
 
 -- ---- What is stored
 
@@ -89,11 +86,17 @@ module _ (j : Judging) (bodies : Bodies) (f : Frame) (n line : ℕ) (g : Progres
   call-body zero b e h = absurd (omega arith)
   call-body (suc d) b e h = let k : suc d - 1 ≡ d = omega arith in rw k (simp e)
 
--- from its first block on
-pub body-opened :
-    (j : Judging) (c : Calls) (f : Frame) (t : List ℕ) (first : ℕ) (o : Opening) (g : Progress) → Opens t first o
-    → runLines j c f (o .line) (lines (drop (o .at) t)) g ≡ runLines j c f first (lines t) g
-body-opened j c f t first o g e =
-    ap (λ (k : ℕ). runLines j c f k (lines (drop (o .at) t)) g) (e .counted)
-    ∙ ap (λ (k : ℕ). runLines j c f (first + k) (lines (drop k t)) g) (e .past)
-    ∙ sym (lines-skip j c f t first g)
+-- ---- A block begins
+
+module _ (j : Judging) (line : ℕ) (l : List ℕ) (g : Progress) where
+  pub begin-spent : mayCome j l g ≡ false → begin j line l g ≡ refused 3 line
+  unfolding begin
+  begin-spent e = simp e
+
+  pub begin-refused : mayCome j l g ≡ true → (number : ℕ) → decode l ≡ fails number → begin j line l g ≡ refused number line
+  unfolding begin
+  begin-refused e number f = simp (e, f)
+
+  pub begin-done : mayCome j l g ≡ true → (i : Instruction) → decode l ≡ passes i → begin j line l g ≡ done (begunBy l g i)
+  unfolding begin
+  begin-done e i f = simp (e, f)

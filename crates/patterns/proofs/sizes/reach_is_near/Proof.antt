@@ -5,9 +5,9 @@ use mir.Syntax.{w32}
 use mir.Val.{toZ, ofZ}
 use borrow.Author.Needs.{needs}
 use Rattle.aries.specs.Judging.{isNear}
-use Rattle.aries.specs.Patterns.{reaches}
-use Rattle.patterns.proofs.sizes.reaches.Statement.{statement}
-use Rattle.patterns.proofs.sizes.reaches.Tie as tie
+use Rattle.aries.specs.Patterns.{reachIsNear}
+use Rattle.patterns.proofs.sizes.reach_is_near.Statement.{statement}
+use Rattle.patterns.proofs.sizes.reach_is_near.Tie as tie
 
 -- the numbers of a line
 line-back : (c : tie.After-known-told) → toZ w32 (ofZ w32 (c .before .pattern .given .0 .0)) ≡ c .before .pattern .given .0 .0
@@ -46,34 +46,34 @@ is-near-requires-3 : tie.Need-is-near-requires-3
 is-near-requires-3 c κs = search needs
 
 returns : tie.Need-returns
-unfolding reaches
+unfolding reachIsNear
 returns c =
-    (simp (line-back (c .before)) at (c .is-near .ensures)) ∙ sym (ap reaches (c .before .before .pattern .given .1))
+    (simp (line-back (c .before)) at (c .is-near .ensures)) ∙ sym (ap reachIsNear (c .before .before .pattern .given .1))
 
 returns-2 : tie.Need-returns-2
-unfolding reaches
-returns-2 c = sym (ap reaches (c .enum-told .given .1))
+unfolding reachIsNear
+returns-2 c = sym (ap reachIsNear (c .enum-told .given .1))
 
 returns-3 : tie.Need-returns-3
-unfolding reaches
-returns-3 c = sym (ap reaches (c .enum-told2 .given .1))
+unfolding reachIsNear
+returns-3 c = sym (ap reachIsNear (c .enum-told2 .given .1))
 
 returns-4 : tie.Need-returns-4
-unfolding reaches
+unfolding reachIsNear
 returns-4 c =
     let p = c .before .before .before .before .before .before .pattern2 in
     let e = sym (x-near (c .before .before)) ∙ c .before .if1 .taken in
-    simp (ap reaches (p .given .1)) (simp e (simp (y-back (c .before .before .before)) at (c .is-near3 .ensures)))
+    simp (ap reachIsNear (p .given .1)) (simp e (simp (y-back (c .before .before .before)) at (c .is-near3 .ensures)))
 
 returns-5 : tie.Need-returns-5
-unfolding reaches
+unfolding reachIsNear
 returns-5 c =
     let p = c .before .before .before .before .before .pattern2 in
     let e = sym (x-near (c .before)) ∙ c .if1 .left in
-    simp (ap reaches (p .given .1)) (simp e)
+    simp (ap reachIsNear (p .given .1)) (simp e)
 
-pub reaches-spec : {M : Type 1} → statement M
-reaches-spec =
+pub reach-is-near-spec : {M : Type 1} → statement M
+reach-is-near-spec =
     tie.close
     (tie.spec
     enum-known-pattern

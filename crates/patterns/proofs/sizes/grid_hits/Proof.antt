@@ -2,8 +2,8 @@
 use native.Mathlib.Omega.{arith}
 use Rattle.patterns.proofs.Holes.{places-small}
 use borrow.Author.Needs.{needs}
-use Rattle.patterns.proofs.sizes.grid_holes.Statement.{statement}
-use Rattle.patterns.proofs.sizes.grid_holes.Tie as tie
+use Rattle.patterns.proofs.sizes.grid_hits.Statement.{statement}
+use Rattle.patterns.proofs.sizes.grid_hits.Tie as tie
 
 cast-columns : tie.Need-cast-columns
 cast-columns c = search needs
@@ -33,8 +33,8 @@ cast-result c =
 returns : tie.Need-returns
 returns c = search needs
 
-pub grid-holes-spec : {M : Type 1} → statement M
-grid-holes-spec =
+pub grid-hits-spec : {M : Type 1} → statement M
+grid-hits-spec =
     tie.close
     (tie.spec
     cast-columns

@@ -8,8 +8,8 @@ use lib.IntN.{natAbs}
 use mir.Syntax.{w32, w64}
 use mir.Val.{toZ, ofZ}
 use Rattle.aries.specs.Judging.{farthest, isNear, near}
-use Rattle.aries.proofs.point.Place.located.Statement.{statement}
-use Rattle.aries.proofs.point.Place.located.Tie as tie
+use Rattle.aries.proofs.point.WidePoint.located.Statement.{statement}
+use Rattle.aries.proofs.point.WidePoint.located.Tie as tie
 
 x-back : (c : tie.Start) → toZ w64 (ofZ w64 (c .args .self .x)) ≡ c .args .self .x
 x-back c = search needs
