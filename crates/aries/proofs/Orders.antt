@@ -13,7 +13,7 @@ use Rattle.aries.specs.declared.block.Layout.{Layout}
 use Rattle.aries.specs.Hits.{Hit}
 use Rattle.aries.specs.Lanes.{lane, along}
 use Rattle.aries.specs.Layouts.{copyCount, columnOf, rowOf, fromRight, fromTop, facing, placeAt, copyPlace}
-use Rattle.aries.specs.CopyRuns.{run, hitsOf, ownHits, movedBy, joined, Alike, singleRow, singleColumn, noPitch, noHit, EqualExactlyWhen}
+use Rattle.aries.specs.CopyRuns.{run, hitsOf, ownHits, movedBy, joined, Alike, singleRow, singleColumn, noPitch, hitless, EqualExactlyWhen}
 use Rattle.aries.proofs.Points.{+ℤ-cancel-left}
 use Rattle.aries.proofs.Joined.{joined-cong, joined-second}
 use Rattle.aries.proofs.Lanes.{lane-first, along-first, lane-single, along-single}
@@ -92,7 +92,7 @@ module _ (origin : Point) (l : Layout) (q : ℕ) (own : List Hit) where
   alike-equal (singleRow e) = by-places (in-a-row origin l q e)
   alike-equal (singleColumn e) = by-places (in-a-column origin l q e)
   alike-equal (noPitch e f) = by-places (λ m h. in-one-place origin l q e f _ _ _ _)
-  alike-equal (noHit e) = joined-cong _ _ (copyCount l) 0 (λ m _ _. ap (map (movedBy (placeIn origin l q false m))) e ∙ sym (ap (map (movedBy (placeIn origin l q true m))) e))
+  alike-equal (hitless e) = joined-cong _ _ (copyCount l) 0 (λ m _ _. ap (map (movedBy (placeIn origin l q false m))) e ∙ sym (ap (map (movedBy (placeIn origin l q true m))) e))
 
   equal-pitches :
       {a b : ℕ} {h : Hit} {t : List Hit} → l .steps .x ≡ suc a → l .steps .y ≡ suc b → own ≡ h ∷ t → allIn false ≡ allIn true
@@ -129,7 +129,7 @@ module _ (origin : Point) (l : Layout) (q : ℕ) (own : List Hit) where
   equal-alike e = go own (l .steps .x) (l .steps .y) refl refl refl
     where
       go : (o : List Hit) (x y : ℕ) → own ≡ o → l .steps .x ≡ x → l .steps .y ≡ y → Alike l own
-      go [] x y eo ex ey = noHit eo
+      go [] x y eo ex ey = hitless eo
       go (h ∷ t) zero y eo ex ey = singleColumn ex
       go (h ∷ t) (suc a) zero eo ex ey = singleRow ey
       go (h ∷ t) (suc a) (suc b) eo ex ey = let p = equal-pitches ex ey eo e in noPitch (p .0) (p .1)

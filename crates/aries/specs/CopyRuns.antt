@@ -175,7 +175,7 @@ pub data Alike (l : Layout) (own : List Hit) : Type 0 where
   singleRow : l .steps .y ≡ 0 → Alike l own
   singleColumn : l .steps .x ≡ 0 → Alike l own
   noPitch : l .pitch .x ≡ 0 → l .pitch .y ≡ 0 → Alike l own
-  noHit : own ≡ [] → Alike l own
+  hitless : own ≡ [] → Alike l own
 
 -- Where both are accepted, their hits are equal, one by one in order, exactly when the layout is a single row or a single
 -- column, or both pitches are zero, or the part makes no hit.

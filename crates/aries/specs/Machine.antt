@@ -1,6 +1,6 @@
 -- The two machines: the G92 pair that names each, and the punching range. (Document 01, "Moving and punching"; refusals 8 and 16.)
 use mathlib.Core.Bool.{Bool, true, false, cond, _&&_}
-use lib.IntN.{ℤ, pos, negsuc}
+use lib.IntN.{ℤ, pos, negℤ}
 use lib.Signed.{leZ}
 use Rattle.signed.specs.Signed.{eqZ}
 use Rattle.aries.specs.declared.point.Point.{Point}
@@ -19,15 +19,15 @@ named p = cond (isPair p (pos 60000) (pos 60000)) (As Aries222) (cond (isPair p 
 
 -- X and Y from −1,020
 abbrev pub leastEnd : ℤ
-leastEnd = negsuc 1019
+leastEnd = negℤ (pos 1020)
 
 -- Y to 61,020
 abbrev pub topEnd : ℤ
 topEnd = pos 61020
 
--- X to 61,020, on the ARIES-224 to 101,020
+-- X to 61,020 as Y, on the ARIES-224 to 101,020
 abbrev pub rightEnd : Machine → ℤ
-rightEnd Aries222 = pos 61020
+rightEnd Aries222 = topEnd
 rightEnd Aries224 = pos 101020
 
 -- a point is in the punching range; its ends belong to it

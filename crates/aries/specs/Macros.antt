@@ -75,7 +75,9 @@ characters m = sizes (m .start) (m .end)
 
 -- ---- Blocks that may stand in a body
 
--- one direct block that has been decoded and counted
+-- One direct block that has been decoded and counted. A lone G90 or G91 has set how X and Y are read as it began, punches
+-- nothing, and counts as a position block. T without X or Y stands only beside a pattern code. B runs a pattern and is no
+-- call. M12 and M13 set the mode, M00, M01, M08 and M09 make no hit.
 unfoldable pub carryDirect : Judging → Frame → ℕ → Direct → Progress → Out (Made Progress)
 unfolding position move setPatternOrigin runPattern recall
 carryDirect j f line Lone g = noHit (withState g (dropping (g .state)))
@@ -148,7 +150,7 @@ unfolding runBlock
 runLines j call f line [] g = noHit g
 runLines j call f line (l ∷ ls) g = andThen (runLine j call f line l g) (runLines j call f (suc line) ls)
 
--- ---- Calls
+-- ---- Calls: W, here; G75 and G76 (Layouts.copyPart); the first run of macros 1 to 59 (Bodies.openBody)
 
 -- A call of macro n, of what is stored, with d further calls to open, counted with this one. W goes on with the state as
 -- it is.

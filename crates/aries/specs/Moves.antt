@@ -36,7 +36,9 @@ abbrev pub _⊕_ : Point → Point → Point
 infixl 60 _⊕_
 p ⊕ q = pointAt (p .x +ℤ q .x) (p .y +ℤ q .y)
 
--- ---- The state (what one block leaves to the next), changed in one respect
+-- ---- The state (what one block leaves to the next), changed in one respect, which stands first in the record
+
+-- the current point
 
 abbrev pub movedTo : State → Point → State
 movedTo s p =
@@ -49,50 +51,52 @@ movedTo s p =
       memories = s .memories;
     }
 
+-- the pattern origin that waits, or none
 abbrev pub waitingFor : State → Waiting → State
 waitingFor s w =
     record {
-      current = s .current;
       waiting = record { origin = w };
+      current = s .current;
       incremental = s .incremental;
       nibble = s .nibble;
       tool = s .tool;
       memories = s .memories;
     }
 
+-- the mode: M12 sets N, M13 P
 abbrev pub inMode : State → Bool → State
 inMode s n =
     record {
+      nibble = n;
       current = s .current;
       waiting = s .waiting;
       incremental = s .incremental;
-      nibble = n;
       tool = s .tool;
       memories = s .memories;
     }
 
--- T chooses the tool; 0 is no T
+-- T chooses the tool. 0 stands for no T: 6 has refused T0.
 abbrev pub choosing : State → ℕ → State
 choosing s t =
     record {
+      tool = cond (ltb 0 t) t (s .tool);
       current = s .current;
       waiting = s .waiting;
       incremental = s .incremental;
       nibble = s .nibble;
-      tool = cond (ltb 0 t) t (s .tool);
       memories = s .memories;
     }
 
--- A n stores a pattern; 0 is no A
+-- A n stores a pattern. 0 stands for no A: 6 has refused A0.
 abbrev pub remembering : State → ℕ → Pattern → State
 remembering s n p =
     record {
+      memories = cond (ltb 0 n) (set (s .memories) (n - 1) (record { stored = Stored.Kept p })) (s .memories);
       current = s .current;
       waiting = s .waiting;
       incremental = s .incremental;
       nibble = s .nibble;
       tool = s .tool;
-      memories = cond (ltb 0 n) (set (s .memories) (n - 1) (record { stored = Stored.Kept p })) (s .memories);
     }
 
 -- G90 or G91 of a block holds for that block already, and on
@@ -104,15 +108,15 @@ isIncremental Incremental before = true
 abbrev pub measuring : State → Measure → State
 measuring s m =
     record {
+      incremental = isIncremental m (s .incremental);
       current = s .current;
       waiting = s .waiting;
-      incremental = isIncremental m (s .incremental);
       nibble = s .nibble;
       tool = s .tool;
       memories = s .memories;
     }
 
--- a position block drops a waiting pattern origin
+-- A position block drops a waiting pattern origin; a lone G90 or G91 counts as one.
 abbrev pub dropping : State → State
 dropping s = waitingFor s Unset
 
@@ -120,6 +124,7 @@ dropping s = waitingFor s Unset
 abbrev pub freshState : State
 freshState = record { current = zeroPoint; waiting = record { origin = Unset }; incremental = false; nibble = false; tool = 0; memories = replicate 5 (record { stored = Stored.Empty }) }
 
+-- nothing has been carried out and nothing hit
 abbrev pub freshProgress : Progress
 freshProgress = record { state = freshState; blocks = 0; hits = 0 }
 
@@ -161,12 +166,12 @@ punch j f line p g = do
   _ ← need (room (j .places) (g .hits)) 17 line
   done (hitting g p)
 
--- A position block punches.
+-- A position block, X or Y with or without T, punches. T chooses the tool first.
 unfoldable pub position : Judging → Frame → ℕ → Axes → ℕ → Progress → Out (Made Progress)
 unfolding punch
 position j f line a t g = punch j f line (target f (g .state) a) (withState g (dropping (choosing (g .state) t)))
 
--- With G70 it moves only.
+-- With G70 it moves only: no hit, so no tool is needed; its end is judged by 15 and 16.
 unfoldable pub move : Judging → Frame → ℕ → Axes → ℕ → Progress → Out (Made Progress)
 unfolding near covers
 move j f line a t g = do
@@ -174,7 +179,7 @@ move j f line a t g = do
   _ ← need (judged (j .bounds) (inRange f (target f (g .state) a))) 16 line
   noHit (withState g (movedTo (dropping (choosing (g .state) t)) (target f (g .state) a)))
 
--- G72 sets the waiting pattern origin; the current point stays.
+-- G72 sets the waiting pattern origin by the same rules, an omitted axis being the current point's; the current point stays.
 unfoldable pub setPatternOrigin : Judging → Frame → ℕ → Axes → Progress → Out (Made Progress)
 unfolding near
 setPatternOrigin j f line a g = do

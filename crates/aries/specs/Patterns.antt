@@ -5,7 +5,7 @@ use Prim.Native.Nat.{ℕ, zero, suc, _+_, _-_, _*_}
 use lib.IntN.{ℤ, pos, negℤ, _+ℤ_, _-ℤ_, _*ℤ_}
 use lib.ListN.{getD}
 use Rattle.sine.specs.Series.{nearest}
-use Rattle.sine.specs.Sine.{sine, cosine, offset}
+use Rattle.sine.specs.Sine.{fullTurn, sine, cosine, offset}
 use Rattle.aries.specs.declared.point.Point.{Point}
 use Rattle.aries.specs.declared.block.Steps.{Steps}
 use Rattle.aries.specs.declared.block.Pattern.{Pattern}
@@ -24,48 +24,62 @@ use Rattle.aries.specs.Judging.{Judging, judged, isNear}
 use Rattle.aries.specs.Lanes.{lane, along}
 use Rattle.aries.specs.Moves.{pointAt, _⊕_, movedTo, dropping, choosing, remembering, withState, punch}
 
--- ---- Where the hits lie: start plus offset; the offset is rounded, never the sum
+-- ---- Where the hits lie: each is start plus offset; the offset is rounded, never the sum. The start is never punched by
+-- the pattern: it is place 0 of a line and of a grid, whose hits count from place 1, and the centre of an arc or circle.
 
 -- the offset at a distance and an angle
 unfoldable pub polar : ℤ → ℤ → Point
 unfolding offset cosine sine
 polar distance angle = pointAt (offset distance (cosine angle)) (offset distance (sine angle))
 
+-- G28 I J K: the k-th hit at distance k × I, angle J
+abbrev pub lineOffset : ℤ → ℤ → ℕ → Point
+lineOffset i j k = polar (pos k *ℤ i) j
+
+-- G29 I J P K: radius I, angles J, J + P, and so on; k counts from 0
+abbrev pub arcOffset : ℤ → ℤ → ℤ → ℕ → Point
+arcOffset i j p k = polar i (j +ℤ (pos k *ℤ p))
+
 -- 36,000 × k / n to the nearest hundredth of a degree, halves up
 abbrev pub turned : ℕ → ℕ → ℕ
-turned n k = nearest (36000 * k) n
+turned n k = nearest (fullTurn * k) n
 
 -- minus the turn where K is negative
 abbrev pub circleAngle : ℤ → Bool → ℕ → ℕ → ℤ
-circleAngle angle clockwise n k = cond clockwise (angle -ℤ pos (turned n k)) (angle +ℤ pos (turned n k))
+circleAngle j clockwise n k = cond clockwise (j -ℤ pos (turned n k)) (j +ℤ pos (turned n k))
 
--- place m of a grid, the start being place 0: row by row, or column by column
+-- G26 I J K, with n the size of K: radius I, hit k, from 0, at angle J plus or minus its turn
+abbrev pub circleOffset : ℤ → ℤ → Bool → ℕ → ℕ → Point
+circleOffset i j clockwise n k = polar i (circleAngle j clockwise n k)
+
+-- G36 I P J K: P + 1 columns at pitch I, K + 1 rows at pitch J. Place m lies row by row, the first row away from the start,
+-- the next back. G37, vertical, goes column by column.
 abbrev pub gridOffset : Bool → Point → Steps → ℕ → Point
 gridOffset vertical pitch steps m =
     cond vertical
     (pointAt (pos (lane (steps .y) m) *ℤ pitch .x) (pos (along (steps .y) m) *ℤ pitch .y))
     (pointAt (pos (along (steps .x) m) *ℤ pitch .x) (pos (lane (steps .x) m) *ℤ pitch .y))
 
--- the offset of hit k, counted from 0. The start of a grid is left out.
+-- the offset of hit k of a pattern, counted from 0
 unfoldable pub hitOffset : Pattern → ℕ → Point
 unfolding polar
-hitOffset (Line pitch angle count) k = polar (pos (suc k) *ℤ pitch) angle
-hitOffset (Arc radius angle step count) k = polar radius (angle +ℤ (pos k *ℤ step))
-hitOffset (Circle radius angle clockwise count) k = polar radius (circleAngle angle clockwise count k)
+hitOffset (Line i j n) k = lineOffset i j (suc k)
+hitOffset (Arc i j p n) k = arcOffset i j p k
+hitOffset (Circle i j clockwise n) k = circleOffset i j clockwise n k
 hitOffset (Grid vertical pitch steps) k = gridOffset vertical pitch steps (suc k)
 
--- how many hits a pattern makes
+-- how many hits a pattern makes: K of them, in a grid all places but the start
 unfoldable pub hitCount : Pattern → ℕ
-hitCount (Line pitch angle count) = count
-hitCount (Arc radius angle step count) = count
-hitCount (Circle radius angle clockwise count) = count
+hitCount (Line i j n) = n
+hitCount (Arc i j p n) = n
+hitCount (Circle i j clockwise n) = n
 hitCount (Grid vertical pitch steps) = suc (steps .x) * suc (steps .y) - 1
 
--- 15: k × I at its largest k, or a grid's I × P and J × K
+-- 15: k × I at its largest k, or a grid's I × P and J × K, does not pass the limit; G29 and G26 name no such product
 unfoldable pub reachIsNear : Pattern → Bool
-reachIsNear (Line pitch angle count) = isNear (pos count *ℤ pitch)
-reachIsNear (Arc radius angle step count) = true
-reachIsNear (Circle radius angle clockwise count) = true
+reachIsNear (Line i j n) = isNear (pos n *ℤ i)
+reachIsNear (Arc i j p n) = true
+reachIsNear (Circle i j clockwise n) = true
 reachIsNear (Grid vertical pitch steps) = isNear (pos (steps .x) *ℤ pitch .x) && isNear (pos (steps .y) *ℤ pitch .y)
 
 -- ---- Carrying a pattern out
@@ -88,11 +102,11 @@ startOf s = startAt (s .waiting .origin) (s .current)
 abbrev pub starting : Progress → Progress
 starting g = withState g (movedTo (dropping (g .state)) (startOf (g .state)))
 
--- A circle ends at its start, any other pattern at its last hit.
+-- G26 ends at the start, any other pattern at its last hit.
 abbrev pub ending : Pattern → Point → Progress → Progress
-ending (Line pitch angle count) start g = g
-ending (Arc radius angle step count) start g = g
-ending (Circle radius angle clockwise count) start g = withState g (movedTo (g .state) start)
+ending (Line i j n) start g = g
+ending (Arc i j p n) start g = g
+ending (Circle i j clockwise n) start g = withState g (movedTo (g .state) start)
 ending (Grid vertical pitch steps) start g = g
 
 -- Pattern reach is judged before its hits.

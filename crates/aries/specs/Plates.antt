@@ -36,11 +36,12 @@ pub record Row : Type 0 where
   pub view : View
   pub expected : Seen
 
-abbrev pub noHit : Hit
-noHit = record { place = zeroPoint; tool = 0; nibble = false }
+-- past the end of the list
+abbrev pub absentHit : Hit
+absentHit = record { place = zeroPoint; tool = 0; nibble = false }
 
 abbrev pub seenHits : List ℕ → Out (List Hit) → Seen
-seenHits indexes (done hs) = hits (length hs) (map (λ k. getD (noHit ∷ hs) k noHit) indexes)
+seenHits indexes (done hs) = hits (length hs) (map (λ k. getD (absentHit ∷ hs) k absentHit) indexes)
 seenHits indexes (refused number line) = refusal number line
 
 abbrev pub seenStorage : Out (Made Program) → Seen

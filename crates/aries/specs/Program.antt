@@ -114,13 +114,16 @@ carryOutside j text next line ls (Outside.Open n) p = mapAfter (withStore p) (op
 carryOutside j text next line ls (Outside.Close n) p = refused 9 line
 carryOutside j text next line ls (Outside.Copy c) p = mapAfter (withProgress p) (copyPart j (bodiesOf text (p .macros)) (p .setup) line c (p .progress))
 
--- One block that has begun and is in its place. Four calls may be opened.
+-- a direct block or a call, as in a body; four calls may be opened
+abbrev pub carryInside : Judging → List ℕ → ℕ → Block → Program → Out (Made Program)
+carryInside j text line b p =
+    mapAfter (withProgress p) (carry j (call j (bodiesOf text (p .macros)) mostCalls) (ordinaryFrame (p .setup)) line b (p .progress))
+
+-- One block that has begun and is in its place.
 unfoldable pub carryOut : Judging → List ℕ → ℕ → ℕ → List (List ℕ) → Block → Program → Out (Made Program)
 unfolding carry call carryOutside bodiesOf
-carryOut j text next line ls (Block.Direct d) p =
-    mapAfter (withProgress p) (carry j (call j (bodiesOf text (p .macros)) mostCalls) (ordinaryFrame (p .setup)) line (Block.Direct d) (p .progress))
-carryOut j text next line ls (Block.Call n) p =
-    mapAfter (withProgress p) (carry j (call j (bodiesOf text (p .macros)) mostCalls) (ordinaryFrame (p .setup)) line (Block.Call n) (p .progress))
+carryOut j text next line ls (Block.Direct d) p = carryInside j text line (Block.Direct d) p
+carryOut j text next line ls (Block.Call n) p = carryInside j text line (Block.Call n) p
 carryOut j text next line ls (Block.Outside o) p = carryOutside j text next line ls o p
 
 -- ---- Lines

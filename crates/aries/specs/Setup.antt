@@ -39,15 +39,17 @@ abbrev pub referenceOf : Sheet → Point
 referenceOf Plain = zeroPoint
 referenceOf (LaidOut l) = l .reference
 
+-- what G93 leaves with another offset, and G98 with another layout: G98 leaves the offset of G93 in force
 abbrev pub withOrigin : Setup → Sheet → Point → Setup
 withOrigin s sheet offset = record { job = s .job; machine = s .machine; sheet = sheet; offset = offset; origin = referenceOf sheet ⊕ offset }
 
+-- 15: the origin does not pass the limit, whether or not a block uses it
 unfoldable pub setOrigin : Judging → ℕ → Sheet → Point → Setup → Out Setup
 unfolding near
 setOrigin j line sheet offset s = do
   _ ← need (judged (j .bounds) (near (referenceOf sheet ⊕ offset))) 15 line
   done (withOrigin s sheet offset)
 
--- G93 sets the offset of the axes it names, alike under G90 and G91; an axis not named keeps its offset.
+-- G93 sets the offset of the axes it names, whether G90 or G91 holds; an axis not named keeps its offset.
 abbrev pub offsetBy : Axes → Point → Point
 offsetBy a before = pointAt (cond (a .x .written) (a .x .value) (before .x)) (cond (a .y .written) (a .y .value) (before .y))

@@ -9,6 +9,19 @@ use Rattle.signed.specs.Signed.{withSign}
 use Rattle.sine.specs.Series.{nearest, one, degreeSine, hundredthSine, hundredthCosine}
 use Rattle.sine.specs.declared.Direction.{Direction}
 
+-- ---- Angles, in hundredths of a degree
+
+abbrev pub quarterTurn : ℕ
+quarterTurn = 9000
+
+abbrev pub halfTurn : ℕ
+halfTurn = 18000
+
+abbrev pub fullTurn : ℕ
+fullTurn = 36000
+
+-- ---- The sine
+
 -- C(d): the cosine of d degrees
 abbrev pub degreeCosine : ℕ → ℕ
 degreeCosine d = degreeSine (90 - d)
@@ -25,34 +38,34 @@ quadrantSine a =
 
 -- An angle reduced to a full turn, 0 to 35,999 hundredths: from 0 it counts up, from -1 it counts down from the end of the turn.
 unfoldable pub turn : ℤ → ℕ
-turn (pos n) = n % 36000
-turn (negsuc n) = 35999 - n % 36000
+turn (pos n) = n % fullTurn
+turn (negsuc n) = fullTurn - 1 - n % fullTurn
 
 -- Reflection: the angle of the first quadrant whose sine has the same size, for an angle below a full turn.
 unfoldable pub acute : ℕ → ℕ
 acute t =
-    elim (leb t 9000) [
+    elim (leb t quarterTurn) [
       | true ↦ t
-      | false ↦ elim (leb t 18000) [
-        | true ↦ 18000 - t
-        | false ↦ elim (leb t 27000) [ true ↦ t - 18000 | false ↦ 36000 - t ]
+      | false ↦ elim (leb t halfTurn) [
+        | true ↦ halfTurn - t
+        | false ↦ elim (leb t (halfTurn + quarterTurn)) [ true ↦ t - halfTurn | false ↦ fullTurn - t ]
       ]
     ]
 
 -- The sine of an angle below a full turn: past half a turn it is negative.
 unfoldable pub turnSine : ℕ → ℤ
 unfolding quadrantSine acute
-turnSine t = withSign (ltb 18000 t) (quadrantSine (acute t))
+turnSine t = withSign (ltb halfTurn t) (quadrantSine (acute t))
 
 -- The sine of any angle.
 unfoldable pub sine : ℤ → ℤ
 unfolding turn turnSine
 sine a = turnSine (turn a)
 
--- The cosine of any angle.
+-- The cosine of any angle is the sine of what it lacks of a quarter turn.
 unfoldable pub cosine : ℤ → ℤ
 unfolding sine
-cosine a = sine (pos 9000 -ℤ a)
+cosine a = sine (pos quarterTurn -ℤ a)
 
 -- both of one angle
 unfoldable pub directionOf : ℤ → Direction
@@ -62,6 +75,8 @@ directionOf a = record { cosine = cosine a; sine = sine a }
 -- z / d to the nearest, halves away from zero: the size is rounded and keeps its sign
 unfoldable pub rounded : ℤ → ℕ → ℤ
 rounded z d = withSign (ltZ z (pos 0)) (nearest (natAbs z) d)
+
+-- ---- Offsets
 
 -- How far a distance reaches along an axis, by the sine (or cosine) of its angle to it.
 unfoldable pub offset : ℤ → ℤ → ℤ
