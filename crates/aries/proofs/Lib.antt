@@ -21,6 +21,7 @@ pub mod BothOrNeither
 -- What makes them theorems about programs.
 pub mod Kept
 pub mod CopyBlocks
+pub mod CopyPairs
 -- What is proved of refusals.
 pub mod Sound
 pub mod Refusals

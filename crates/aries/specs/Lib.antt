@@ -20,5 +20,6 @@ pub mod Program
 pub mod Runs
 pub mod CopyRuns
 pub mod CopyBlocks
+pub mod CopyPairs
 pub mod Refusals
 pub mod Plates

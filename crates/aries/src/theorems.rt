@@ -1,5 +1,6 @@
 ghost use Rattle.aries.specs.CopyRuns.{BothOrNeither, EqualExactlyWhen, LayoutSentence, ReferenceMoves};
 ghost use Rattle.aries.specs.CopyBlocks.{CopyLinesRun, ReachedOrdinary, OriginMoves};
+ghost use Rattle.aries.specs.CopyPairs.{PairAlike};
 ghost use Rattle.aries.specs.Plates.{PlatesHold};
 ghost use Rattle.aries.specs.Refusals.{RefusalsNamed};
 
@@ -38,6 +39,11 @@ pub fn reached_ordinary()
 // so that moving the reference point moves the origin along.
 pub fn origin_moves()
     ensures { λ _. ⌜ OriginMoves ⌝ }
+{}
+
+// A sheet by G75 in one text and by G76 in another is a pair that the theorems compare.
+pub fn pair_alike()
+    ensures { λ _. ⌜ PairAlike ⌝ }
 {}
 
 // Demand 1: a refusal has a number from 1 to 17; its line is 0 exactly for 1, and else one of the text.
