@@ -17,7 +17,7 @@ use Rattle.aries.specs.declared.block.Axes.{Axes}
 use Rattle.aries.specs.declared.block.Pattern.{Pattern}
 use Rattle.aries.specs.declared.block.Pattern.the-variants.{Line, Arc, Circle, Grid}
 use Rattle.aries.specs.declared.block.Direct.{Direct}
-use Rattle.aries.specs.declared.block.Direct.the-variants.{Lone, Punch, Move, PatternOrigin, Run, Recall, Nibble, Idle}
+use Rattle.aries.specs.declared.block.Direct.the-variants.{Lone, Punch, Move, PatternOrigin, RunPattern, Recall, Nibble, Idle}
 use Rattle.aries.specs.declared.block.Block.{Block}
 use Rattle.aries.specs.declared.block.Block.the-variants as Block
 use Rattle.aries.specs.declared.block.Instruction.{Instruction}
@@ -189,7 +189,7 @@ module _ {E : Type 0} (j : Judging) (bounds : Bool) (v : Point) (job : Job) (w :
     carryDirect-follows (Punch a t) s n n′ = position-follows a t s n n′
     carryDirect-follows (Move a t) s n n′ = move-follows a t s n n′
     carryDirect-follows (PatternOrigin a) s n n′ = setPatternOrigin-follows a s n n′
-    carryDirect-follows (Run p t a) s n n′ = runPattern-follows p t a s n n′
+    carryDirect-follows (RunPattern p t a) s n n′ = runPattern-follows p t a s n n′
     carryDirect-follows (Recall k) s n n′ = recall-follows k s n n′
     carryDirect-follows (Nibble b) s n n′ = follows-no-hit (inMode s b) n n′
     carryDirect-follows Idle s n n′ = follows-no-hit s n n′

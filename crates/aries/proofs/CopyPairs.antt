@@ -10,7 +10,7 @@ use Rattle.aries.specs.declared.block.Copies.{Copies}
 use Rattle.aries.specs.declared.block.Layout.{Layout}
 use Rattle.aries.specs.declared.block.Outside.the-variants.{Copy}
 use Rattle.aries.specs.declared.block.Block.the-variants.{Outside}
-use Rattle.aries.specs.declared.block.Measure.the-variants.{Kept}
+use Rattle.aries.specs.declared.block.Measure.the-variants.{Unchanged}
 use Rattle.aries.specs.declared.block.Instruction.{Instruction}
 use Rattle.aries.specs.declared.machine.Machine.the-variants.{Aries222}
 use Rattle.aries.specs.declared.macros.Macros.{Macros}
@@ -76,7 +76,7 @@ abbrev finds : List ℕ → Bool → Circumstances
 finds text vertical = circumstances text 6 (copiesBy vertical) (program Running laid stored 4)
 
 abbrev instructionBy : Bool → Instruction
-instructionBy vertical = record { measure = Kept; block = Outside (Copy (copiesBy vertical)) }
+instructionBy vertical = record { measure = Unchanged; block = Outside (Copy (copiesBy vertical)) }
 
 -- a text whose sixth line is such a block comes to it
 comes-to :

@@ -1,7 +1,7 @@
 -- Past 1, what is refused has a number from 2 to 17 and a line of the text: one law a definition, from a hit up to the copies of
 -- a part, where all that is stored lies within the lines of the text.
 use mathlib.Core.Path.{_≡_, refl}
-use mathlib.Core.Bool.{Bool, true, false, cond}
+use mathlib.Core.Bool.{Bool, true, false, cond, _&&_}
 use mathlib.Core.List.{List, [], _∷_}
 use mathlib.Core.Option.{Option, none, some}
 use Prim.Native.Nat.{ℕ, zero, suc, _+_, _-_, _≤_}
@@ -9,7 +9,7 @@ use native.Mathlib.Omega.{arith}
 use lib.Dec.{ltb}
 use lib.ListN.{length, getD}
 use Rattle.aries.specs.declared.block.Direct.{Direct}
-use Rattle.aries.specs.declared.block.Direct.the-variants.{Lone, Punch, Move, PatternOrigin, Run, Recall, Nibble, Idle}
+use Rattle.aries.specs.declared.block.Direct.the-variants.{Lone, Punch, Move, PatternOrigin, RunPattern, Recall, Nibble, Idle}
 use Rattle.aries.specs.declared.block.Block.{Block}
 use Rattle.aries.specs.declared.block.Block.the-variants as Block
 use Rattle.aries.specs.declared.block.Axes.{Axes}
@@ -25,12 +25,14 @@ use Rattle.aries.specs.declared.state.Progress.{Progress}
 use Rattle.aries.specs.declared.state.State.{State}
 use Rattle.aries.specs.declared.state.Stored.{Stored}
 use Rattle.aries.specs.declared.state.Stored.the-variants.{Empty, Kept}
-use Rattle.aries.specs.declared.word.Words.{Words}
 use Rattle.aries.specs.Test.{within}
 use Rattle.aries.specs.Outcome.{Out, done, refused, _>>=_, need, given, passes, fails, inLine}
 use Rattle.aries.specs.Text.{lines}
-use Rattle.aries.specs.Words.{words}
-use Rattle.aries.specs.Blocks.{kindOf, isListed, isRanged, instructionOf, decodeWords, decoded, decode}
+use Rattle.aries.specs.Words.{LetterWord, words}
+use Rattle.aries.specs.ByLetter.{Words, byLetter}
+use Rattle.aries.specs.Forms.{inPlaces, kindOf, isListed}
+use Rattle.aries.specs.Numbers.{isRanged}
+use Rattle.aries.specs.Blocks.{instructionOf, decodeWords, decoded, decode}
 use Rattle.aries.specs.Hits.{Made, adding, andThen, mapAfter}
 use Rattle.aries.specs.Judging.{Judging, room, judged, near}
 use Rattle.aries.specs.Machine.{inRange}
@@ -175,18 +177,21 @@ module _ {last : ℕ} where
     carryDirect-sound (Punch a t) g = punch-sound (target f (g .state) a) (withState g (dropping (choosing (g .state) t)))
     carryDirect-sound (Move a t) g = move-sound a t g
     carryDirect-sound (PatternOrigin a) g = setPatternOrigin-sound a g
-    carryDirect-sound (Run p t a) g = pattern-sound p (withState g (remembering (choosing (g .state) t) a p))
+    carryDirect-sound (RunPattern p t a) g = pattern-sound p (withState g (remembering (choosing (g .state) t) a p))
     carryDirect-sound (Recall n) g = recalled-sound (getD (g .state .memories) (n - 1) emptyMemory .stored) g
     carryDirect-sound (Nibble b) g = sound-done tt
     carryDirect-sound Idle g = sound-done tt
 
   -- ---- A line begins
 
-  decoded-proper : (line : ℕ) → LineOf last line → (o : Option Words) → Proper last Any (inLine line (decoded o))
+  decoded-proper : (line : ℕ) → LineOf last line → (o : Option (List LetterWord)) → Proper last Any (inLine line (decoded o))
   unfolding decodeWords
   decoded-proper line h none = record { answered = (refl, h) }
-  decoded-proper line h (some w) = go (isListed w (kindOf w)) (isRanged w (kindOf w))
+  decoded-proper line h (some ws) = go (inPlaces ws && isListed w (kindOf w)) (isRanged (w .letters) (kindOf w))
     where
+      w : Words
+      w = byLetter ws
+
       go : (listed ranged : Bool) → Proper last Any (inLine line (cond listed (cond ranged (passes (instructionOf w)) (fails 6)) (fails 5)))
       go false ranged = record { answered = (refl, h) }
       go true false = record { answered = (refl, h) }

@@ -54,4 +54,4 @@ letterY = 89
 
 -- A is 0
 abbrev pub indexOf : ℕ → ℕ
-indexOf letter = letter - 65
+indexOf letter = letter - letterA

@@ -4,6 +4,9 @@ pub mod Outcome
 pub mod Text
 pub mod Letters
 pub mod Words
+pub mod ByLetter
+pub mod Forms
+pub mod Numbers
 pub mod Blocks
 pub mod Judging
 pub mod WidePoints

@@ -6,7 +6,7 @@ use Prim.Native.Nat.{ℕ, zero, suc, _+_, _-_, _≤_}
 use lib.Dec.{ltb}
 use lib.ListN.{getD, set, take, drop, replicate}
 use Rattle.aries.specs.declared.block.Direct.{Direct}
-use Rattle.aries.specs.declared.block.Direct.the-variants.{Lone, Punch, Move, PatternOrigin, Run, Recall, Nibble, Idle}
+use Rattle.aries.specs.declared.block.Direct.the-variants.{Lone, Punch, Move, PatternOrigin, RunPattern, Recall, Nibble, Idle}
 use Rattle.aries.specs.declared.block.Block.{Block}
 use Rattle.aries.specs.declared.block.Block.the-variants as Block
 use Rattle.aries.specs.declared.block.Measure.{Measure}
@@ -84,7 +84,7 @@ carryDirect j f line Lone g = noHit (withState g (dropping (g .state)))
 carryDirect j f line (Punch a t) g = position j f line a t g
 carryDirect j f line (Move a t) g = move j f line a t g
 carryDirect j f line (PatternOrigin a) g = setPatternOrigin j f line a g
-carryDirect j f line (Run p t a) g = runPattern j f line p t a g
+carryDirect j f line (RunPattern p t a) g = runPattern j f line p t a g
 carryDirect j f line (Recall n) g = recall j f line n g
 carryDirect j f line (Nibble b) g = noHit (withState g (inMode (g .state) b))
 carryDirect j f line Idle g = noHit g

@@ -10,7 +10,7 @@ use Rattle.aries.specs.declared.block.Axis.{Axis}
 use Rattle.aries.specs.declared.block.Axes.{Axes}
 use Rattle.aries.specs.declared.block.Pattern.{Pattern}
 use Rattle.aries.specs.declared.block.Measure.{Measure}
-use Rattle.aries.specs.declared.block.Measure.the-variants.{Kept, Absolute, Incremental}
+use Rattle.aries.specs.declared.block.Measure.the-variants.{Unchanged, Absolute, Incremental}
 use Rattle.aries.specs.declared.state.Waiting.{Waiting}
 use Rattle.aries.specs.declared.state.Waiting.the-variants.{Unset, At}
 use Rattle.aries.specs.declared.state.Stored.{Stored}
@@ -20,6 +20,7 @@ use Rattle.aries.specs.declared.state.State.{State}
 use Rattle.aries.specs.declared.state.Frame.{Frame}
 use Rattle.aries.specs.declared.state.Progress.{Progress}
 use Rattle.aries.specs.Outcome.{Out, done, refused, _>>=_, need}
+use Rattle.aries.specs.Numbers.{memoryCount}
 use Rattle.aries.specs.Machine.{covers, inRange}
 use Rattle.aries.specs.Hits.{Hit, Made, noHit}
 use Rattle.aries.specs.Judging.{Judging, room, judged, near}
@@ -101,7 +102,7 @@ remembering s n p =
 
 -- G90 or G91 of a block holds for that block already, and on
 abbrev pub isIncremental : Measure → Bool → Bool
-isIncremental Kept before = before
+isIncremental Unchanged before = before
 isIncremental Absolute before = false
 isIncremental Incremental before = true
 
@@ -122,7 +123,7 @@ dropping s = waitingFor s Unset
 
 -- At the start G90 holds, the mode is P, no tool is chosen and nothing is stored.
 abbrev pub freshState : State
-freshState = record { current = zeroPoint; waiting = record { origin = Unset }; incremental = false; nibble = false; tool = 0; memories = replicate 5 (record { stored = Stored.Empty }) }
+freshState = record { current = zeroPoint; waiting = record { origin = Unset }; incremental = false; nibble = false; tool = 0; memories = replicate memoryCount (record { stored = Stored.Empty }) }
 
 -- nothing has been carried out and nothing hit
 abbrev pub freshProgress : Progress

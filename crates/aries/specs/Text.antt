@@ -25,6 +25,15 @@ space = 32
 abbrev pub lineFeed : ℕ
 lineFeed = 10
 
+abbrev pub plus : ℕ
+plus = 43
+
+abbrev pub minus : ℕ
+minus = 45
+
+abbrev pub point : ℕ
+point = 46
+
 abbrev pub isCapital : ℕ → Bool
 isCapital b = within 65 90 b
 
@@ -33,7 +42,7 @@ isDigit b = within 48 57 b
 
 -- a capital, a digit, a space, a line feed, plus, minus or point
 abbrev pub isAllowed : ℕ → Bool
-isAllowed b = isCapital b || (isDigit b || among (space ∷ lineFeed ∷ 43 ∷ 45 ∷ 46 ∷ []) b)
+isAllowed b = isCapital b || (isDigit b || among (space ∷ lineFeed ∷ plus ∷ minus ∷ point ∷ []) b)
 
 -- the first byte of a line
 abbrev pub startsWith : ℕ → List ℕ → Bool

@@ -105,7 +105,7 @@ pub enum Direct {
     // G72
     PatternOrigin(Axes),
     // a pattern code
-    Run(Pattern, u8, u8),
+    RunPattern(Pattern, u8, u8),
     // B
     Recall(u8),
     // M12, and M13 with false
@@ -141,7 +141,7 @@ pub enum Block {
 
 // How X and Y are read from a block on: as before, by G90 or by G91.
 pub enum Measure {
-    Kept,
+    Unchanged,
     Absolute,
     Incremental,
 }

@@ -1,4 +1,4 @@
--- Laws of the ranges: numbers of clean words that pass them are small, absent ones too.
+-- Laws of the ranges: numbers of sized words that pass them are small, absent ones too.
 -- Assumes nothing.
 use mathlib.Core.Path.{_≡_, refl, sym, ap, subst}
 use mathlib.Core.Bool.{Bool, true, false, not, _&&_, _||_}
@@ -11,22 +11,22 @@ use lib.IntN.{natAbs}
 use borrow.Author.Tests.{eqb-true, leb-true}
 use Rattle.signed.proofs.Tests.{and-left, and-right}
 use Rattle.aries.specs.declared.word.Word.{Word}
-use Rattle.aries.specs.declared.word.Words.{Words}
 use Rattle.aries.specs.declared.block.Kind.{Kind}
 use Rattle.aries.specs.Test.{within, every}
-use Rattle.aries.specs.Words.{at, isPlain}
-use Rattle.aries.specs.Blocks.{Range, aboveZero, notNegative, whole, signedWhole, numberFits, rangesOf, commonRanges, isRanged, count}
-use Rattle.blocks.specs.Clean.{Clean, CleanWord}
+use Rattle.aries.specs.ByLetter.{Letters, at, isPlain}
+use Rattle.aries.specs.Numbers.{Range, aboveZero, notNegative, whole, signedWhole, numberFits, rangesOf, commonRanges, isRanged}
+use Rattle.aries.specs.Blocks.{count}
+use Rattle.blocks.specs.Sized.{Sized, SizedWord}
 use Rattle.blocks.specs.Decoding.{passes}
 
 -- ---- One word
 
 -- a number that is absent, or within bounds by a test
-absent-or : (v : Word) (t : Bool) (least most : ℕ) → CleanWord v → (not (v .written) || (t && within least most (natAbs (v .value)))) ≡ true → natAbs (v .value) ≤ most
-absent-or v t least most clean h = go (v .written) refl
+absent-or : (v : Word) (t : Bool) (least most : ℕ) → SizedWord v → (not (v .written) || (t && within least most (natAbs (v .value)))) ≡ true → natAbs (v .value) ≤ most
+absent-or v t least most sized h = go (v .written) refl
   where
     go : (written : Bool) → v .written ≡ written → natAbs (v .value) ≤ most
-    go false e = subst (λ (n : ℕ). n ≤ most) (sym (ap natAbs (clean .absent e))) (omega arith)
+    go false e = subst (λ (n : ℕ). n ≤ most) (sym (ap natAbs (sized .absent e))) (omega arith)
     go true e =
         let range : (t && within least most (natAbs (v .value))) ≡ true = subst (λ (w : Bool). (not w || (t && within least most (natAbs (v .value)))) ≡ true) e h in
         let inside : within least most (natAbs (v .value)) ≡ true = and-right t (within least most (natAbs (v .value))) range in
@@ -40,15 +40,15 @@ upTo cap (whole least most) = leb most cap
 upTo cap (signedWhole least most) = leb most cap
 
 -- a number that passes such a range
-small-enough : (range : Range) (v : Word) (cap : ℕ) → CleanWord v → upTo cap range ≡ true → passes range v ≡ true → natAbs (v .value) ≤ cap
-small-enough aboveZero v cap clean u h = absurd (subst T (sym u) tt)
-small-enough notNegative v cap clean u h = absurd (subst T (sym u) tt)
-small-enough (whole least most) v cap clean u h = le-trans (absent-or v (isPlain v) least most clean h) (leb-true most cap u)
-small-enough (signedWhole least most) v cap clean u h = le-trans (absent-or v (not (v .pointed)) least most clean h) (leb-true most cap u)
+small-enough : (range : Range) (v : Word) (cap : ℕ) → SizedWord v → upTo cap range ≡ true → passes range v ≡ true → natAbs (v .value) ≤ cap
+small-enough aboveZero v cap sized u h = absurd (subst T (sym u) tt)
+small-enough notNegative v cap sized u h = absurd (subst T (sym u) tt)
+small-enough (whole least most) v cap sized u h = le-trans (absent-or v (isPlain v) least most sized h) (leb-true most cap u)
+small-enough (signedWhole least most) v cap sized u h = le-trans (absent-or v (not (v .pointed)) least most sized h) (leb-true most cap u)
 
--- a number of a clean word
-pub size-small : {w : Words} {n : ℕ} {v : Word} (letter : ℕ) → Clean w → v ≡ at w letter → n ≡ natAbs (v .value) → n ≤ 999999
-size-small letter clean e f = rw (f, e) (clean .each letter .small)
+-- a number of a sized word
+pub size-small : {w : Letters} {n : ℕ} {v : Word} (letter : ℕ) → Sized w → v ≡ at w letter → n ≡ natAbs (v .value) → n ≤ 999999
+size-small letter sized e f = rw (f, e) (sized .each letter .small)
 
 -- ---- The words of a block
 
@@ -58,26 +58,26 @@ limits [] letter cap = false
 limits (e ∷ es) letter cap = (eqb (e .0) letter && upTo cap (e .1)) || limits es letter cap
 
 -- where all numbers of the table fit, that one does
-limited : (w : Words) (es : List (ℕ × Range)) (letter cap : ℕ) → Clean w → limits es letter cap ≡ true → every (numberFits w) es ≡ true → count w letter ≤ cap
-limited w [] letter cap clean l h = absurd (subst T (sym l) tt)
-limited w (e ∷ es) letter cap clean l h = go (eqb (e .0) letter && upTo cap (e .1)) refl l (λ m. limited w es letter cap clean m (and-right (numberFits w e) (every (numberFits w) es) h))
+limited : (w : Letters) (es : List (ℕ × Range)) (letter cap : ℕ) → Sized w → limits es letter cap ≡ true → every (numberFits w) es ≡ true → count w letter ≤ cap
+limited w [] letter cap sized l h = absurd (subst T (sym l) tt)
+limited w (e ∷ es) letter cap sized l h = go (eqb (e .0) letter && upTo cap (e .1)) refl l (λ m. limited w es letter cap sized m (and-right (numberFits w e) (every (numberFits w) es) h))
   where
     go :
         (here : Bool) → (eqb (e .0) letter && upTo cap (e .1)) ≡ here → (here || limits es letter cap) ≡ true
         → (limits es letter cap ≡ true → count w letter ≤ cap)
         → count w letter ≤ cap
     go true b m later =
-        let first = small-enough (e .1) (at w (e .0)) cap (clean .each (e .0)) (and-right (eqb (e .0) letter) (upTo cap (e .1)) b) (and-left (numberFits w e) (every (numberFits w) es) h) in
+        let first = small-enough (e .1) (at w (e .0)) cap (sized .each (e .0)) (and-right (eqb (e .0) letter) (upTo cap (e .1)) b) (and-left (numberFits w e) (every (numberFits w) es) h) in
         subst (λ (n : ℕ). count w n ≤ cap) (eqb-true (e .0) letter (and-left (eqb (e .0) letter) (upTo cap (e .1)) b)) first
     go false b m later = later m
 
-module _ (w : Words) (k : Kind) (clean : Clean w) (ranged : isRanged w k ≡ true) where
+module _ (w : Letters) (k : Kind) (sized : Sized w) (ranged : isRanged w k ≡ true) where
   -- a number that is limited by the table of the kind that it is
   pub own-limit : {l : Kind} → k ≡ l → (letter cap : ℕ) → limits (rangesOf l) letter cap ≡ true → count w letter ≤ cap
   unfolding isRanged
-  own-limit e letter cap l = limited w (rangesOf k) letter cap clean (rw e l) (and-left (every (numberFits w) (rangesOf k)) (every (numberFits w) commonRanges) ranged)
+  own-limit e letter cap l = limited w (rangesOf k) letter cap sized (rw e l) (and-left (every (numberFits w) (rangesOf k)) (every (numberFits w) commonRanges) ranged)
 
   -- one that is limited wherever it stands
   pub common-limit : (letter cap : ℕ) → limits commonRanges letter cap ≡ true → count w letter ≤ cap
   unfolding isRanged
-  common-limit letter cap l = limited w commonRanges letter cap clean l (and-right (every (numberFits w) (rangesOf k)) (every (numberFits w) commonRanges) ranged)
+  common-limit letter cap l = limited w commonRanges letter cap sized l (and-right (every (numberFits w) (rangesOf k)) (every (numberFits w) commonRanges) ranged)

@@ -1,5 +1,6 @@
 pub mod Arms
+pub mod Lengths
 pub mod Bounds
-pub mod Clean
-pub mod Alone
+pub mod Sized
+pub mod Counting
 pub mod Tests

@@ -1,2 +1,3 @@
-pub mod Clean
+pub mod Sized
+pub mod Counting
 pub mod Decoding

@@ -1,10 +1,11 @@
 ghost use mathlib.Core.Path.{_≡_};
-ghost use Rattle.aries.specs.Blocks.{lookup, codes, plainKind, kindOf};
+ghost use Rattle.aries.specs.ByLetter.{lookup, codes};
+ghost use Rattle.aries.specs.Forms.{plainKind, kindOf};
 ghost use Rattle.aries.specs.declared.block.Kind.the-variants.{Unknown};
-ghost use Rattle.words.specs.Keeping.{wordsOf, wordsWith};
+ghost use Rattle.words.specs.Keeping.{lettersOf, wordsBy};
 use crate::lookup::has;
 use aries::block::Kind;
-use words::Tally;
+use words::Summary;
 
 // The kind of a block with a code.
 fn coded_kind(code: u32) -> Kind
@@ -30,7 +31,7 @@ fn coded_kind(code: u32) -> Kind
 
 // The kind of a block without a code.
 fn plain_kind(forms: &[u8; 26], numbers: &[i32; 26]) -> Kind
-    ensures { λ r. ⌜ r ≡ plainKind (wordsOf (now (forms .entry)) (now (numbers .entry))) ⌝ }
+    ensures { λ r. ⌜ r ≡ plainKind (lettersOf (now (forms .entry)) (now (numbers .entry))) ⌝ }
 {
     if has(forms, numbers, b'M') {
         return Kind::LetterM;
@@ -54,11 +55,11 @@ fn plain_kind(forms: &[u8; 26], numbers: &[i32; 26]) -> Kind
 }
 
 // The kind of a block: by its code, or else by its letters.
-pub fn kind_of(forms: &[u8; 26], numbers: &[i32; 26], tally: Tally) -> Kind
-    ensures { λ r. ⌜ r ≡ kindOf (wordsWith (now (forms .entry)) (now (numbers .entry)) tally) ⌝ }
+pub fn kind_of(forms: &[u8; 26], numbers: &[i32; 26], summary: Summary) -> Kind
+    ensures { λ r. ⌜ r ≡ kindOf (wordsBy (lettersOf (now (forms .entry)) (now (numbers .entry))) summary) ⌝ }
 {
-    if tally.coded {
-        coded_kind(tally.code)
+    if summary.coded {
+        coded_kind(summary.code)
     } else {
         plain_kind(forms, numbers)
     }

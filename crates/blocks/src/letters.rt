@@ -3,23 +3,22 @@ ghost use mathlib.Core.Bool.{cond, _&&_};
 ghost use mathlib.Core.List.{[], _∷_};
 ghost use Prim.Native.Nat.{_+_, _≤_};
 ghost use lib.Dec.{eqb};
-ghost use lib.IntN.{natAbs};
-ghost use Rattle.aries.specs.Blocks.{neither, form, formOf, present, lettersFit, besideFits, kindFits, isListed};
-ghost use Rattle.aries.specs.Test.{among};
-ghost use Rattle.aries.specs.Words.{isPlain};
-ghost use Rattle.words.specs.Keeping.{wordsFrom, wordsOf, wordsWith};
+ghost use Rattle.aries.specs.ByLetter.{isEntry, mCodes, isPlain, codeOf};
+ghost use Rattle.aries.specs.Forms.{neither, form, formOf, besideFits, kindFits};
+ghost use Rattle.blocks.specs.Counting.{present, countFits, isCounted};
+ghost use Rattle.words.specs.Keeping.{lettersOf, measureBy};
 use crate::lookup::has;
 use crate::lookup::is_plain;
 use crate::lookup::size_of;
 use crate::lookup::word_at;
 use aries::block::Kind;
 use aries::word::Word;
-use words::Tally;
+use words::Summary;
 
 // How many of some letters stand in the block: of one letter,
 fn one(forms: &[u8; 26], numbers: &[i32; 26], a: u8) -> usize
     requires { ⌜ (65 ≤ a) × (a ≤ 90) ⌝ }
-    ensures { λ r. ⌜ r ≡ present (wordsOf (now (forms .entry)) (now (numbers .entry))) (a ∷ []) ⌝ }
+    ensures { λ r. ⌜ r ≡ present (lettersOf (now (forms .entry)) (now (numbers .entry))) (a ∷ []) ⌝ }
     ensures { λ r. ⌜ r ≤ 1 ⌝ }
 {
     if has(forms, numbers, a) { 1 } else { 0 }
@@ -29,7 +28,7 @@ fn one(forms: &[u8; 26], numbers: &[i32; 26], a: u8) -> usize
 fn two(forms: &[u8; 26], numbers: &[i32; 26], a: u8, b: u8) -> usize
     requires { ⌜ (65 ≤ a) × (a ≤ 90) ⌝ }
     requires { ⌜ (65 ≤ b) × (b ≤ 90) ⌝ }
-    ensures { λ r. ⌜ r ≡ present (wordsOf (now (forms .entry)) (now (numbers .entry))) (a ∷ b ∷ []) ⌝ }
+    ensures { λ r. ⌜ r ≡ present (lettersOf (now (forms .entry)) (now (numbers .entry))) (a ∷ b ∷ []) ⌝ }
     ensures { λ r. ⌜ r ≤ 2 ⌝ }
 {
     one(forms, numbers, a) + one(forms, numbers, b)
@@ -40,7 +39,7 @@ fn three(forms: &[u8; 26], numbers: &[i32; 26], a: u8, b: u8, c: u8) -> usize
     requires { ⌜ (65 ≤ a) × (a ≤ 90) ⌝ }
     requires { ⌜ (65 ≤ b) × (b ≤ 90) ⌝ }
     requires { ⌜ (65 ≤ c) × (c ≤ 90) ⌝ }
-    ensures { λ r. ⌜ r ≡ present (wordsOf (now (forms .entry)) (now (numbers .entry))) (a ∷ b ∷ c ∷ []) ⌝ }
+    ensures { λ r. ⌜ r ≡ present (lettersOf (now (forms .entry)) (now (numbers .entry))) (a ∷ b ∷ c ∷ []) ⌝ }
     ensures { λ r. ⌜ r ≤ 3 ⌝ }
 {
     one(forms, numbers, a) + one(forms, numbers, b) + one(forms, numbers, c)
@@ -55,20 +54,20 @@ fn all_fit(others: usize, n: usize, must: usize, may: usize) -> bool
 }
 
 // Whether X or Y stands in a block, and no other words but, with tool, T.
-fn axes_fit(forms: &[u8; 26], numbers: &[i32; 26], tally: Tally, tool: bool) -> bool
-    ensures { λ r. ⌜ r ≡ lettersFit (wordsWith (now (forms .entry)) (now (numbers .entry)) tally) (form "" "XY" (cond tool "T" "") neither) ⌝ }
+fn axes_fit(forms: &[u8; 26], numbers: &[i32; 26], summary: Summary, tool: bool) -> bool
+    ensures { λ r. ⌜ r ≡ countFits (lettersOf (now (forms .entry)) (now (numbers .entry))) (summary .others) (form "" "XY" (cond tool "T" "") neither) ⌝ }
 {
     let axes = two(forms, numbers, b'X', b'Y');
     let t = one(forms, numbers, b'T');
     let may = if tool { t } else { 0 };
-    (1 <= axes) & (tally.others == axes + may)
+    (1 <= axes) & (summary.others == axes + may)
 }
 
 // Whether a block has the letters of its kind and no others.
-fn form_fits(forms: &[u8; 26], numbers: &[i32; 26], tally: Tally, kind: Kind) -> bool
-    ensures { λ r. ⌜ r ≡ lettersFit (wordsWith (now (forms .entry)) (now (numbers .entry)) tally) (formOf kind) ⌝ }
+fn form_fits(forms: &[u8; 26], numbers: &[i32; 26], summary: Summary, kind: Kind) -> bool
+    ensures { λ r. ⌜ r ≡ countFits (lettersOf (now (forms .entry)) (now (numbers .entry))) (summary .others) (formOf kind) ⌝ }
 {
-    let n = tally.others;
+    let n = summary.others;
     match kind {
         Kind::G26 | Kind::G28 => all_fit(
             n,
@@ -82,8 +81,8 @@ fn form_fits(forms: &[u8; 26], numbers: &[i32; 26], tally: Tally, kind: Kind) ->
             three(forms, numbers, b'I', b'J', b'P') + one(forms, numbers, b'K'),
             two(forms, numbers, b'T', b'A'),
         ),
-        Kind::G70 | Kind::Position => axes_fit(forms, numbers, tally, true),
-        Kind::G72 | Kind::G93 => axes_fit(forms, numbers, tally, false),
+        Kind::G70 | Kind::Position => axes_fit(forms, numbers, summary, true),
+        Kind::G72 | Kind::G93 => axes_fit(forms, numbers, summary, false),
         Kind::G75 | Kind::G76 => all_fit(n, 2, two(forms, numbers, b'W', b'Q'), 0),
         Kind::G92 => all_fit(n, 2, two(forms, numbers, b'X', b'Y'), 0),
         Kind::G98 => all_fit(
@@ -102,21 +101,21 @@ fn form_fits(forms: &[u8; 26], numbers: &[i32; 26], tally: Tally, kind: Kind) ->
 }
 
 // Whether the G90 or G91 of a block, or their absence, goes with its kind.
-fn beside_fits(tally: Tally, kind: Kind) -> bool
-    ensures { λ r. ⌜ r ≡ besideFits (wordsFrom [] tally) (formOf kind .beside) ⌝ }
+fn beside_fits(summary: Summary, kind: Kind) -> bool
+    ensures { λ r. ⌜ r ≡ besideFits (measureBy summary) (formOf kind .beside) ⌝ }
 {
     match kind {
         Kind::G26 | Kind::G28 | Kind::G29 | Kind::G36 | Kind::G37 => true,
         Kind::G70 | Kind::G72 | Kind::Position => true,
-        Kind::G93 => !(tally.read & tally.incremental),
-        Kind::Lone => tally.read,
-        _ => !tally.read,
+        Kind::G93 => !(summary.read & summary.incremental),
+        Kind::Lone => summary.read,
+        _ => !summary.read,
     }
 }
 
 // Whether an M word is one of the M codes, which go by their number and have no sign or point.
 fn is_m_code(v: Word) -> bool
-    ensures { λ r. ⌜ r ≡ (isPlain v && among (0 ∷ 1 ∷ 8 ∷ 9 ∷ 12 ∷ 13 ∷ []) (natAbs (v .value))) ⌝ }
+    ensures { λ r. ⌜ r ≡ (isPlain v && isEntry mCodes (codeOf v)) ⌝ }
 {
     let n = size_of(v);
     is_plain(v) & ((n == 0) | (n == 1) | (n == 8) | (n == 9) | (n == 12) | (n == 13))
@@ -124,7 +123,7 @@ fn is_m_code(v: Word) -> bool
 
 // What a kind asks of its words besides.
 fn kind_fits(forms: &[u8; 26], numbers: &[i32; 26], kind: Kind) -> bool
-    ensures { λ r. ⌜ r ≡ kindFits (wordsOf (now (forms .entry)) (now (numbers .entry))) kind ⌝ }
+    ensures { λ r. ⌜ r ≡ kindFits (lettersOf (now (forms .entry)) (now (numbers .entry))) kind ⌝ }
 {
     match kind {
         Kind::LetterM => is_m_code(word_at(forms, numbers, b'M')),
@@ -135,11 +134,11 @@ fn kind_fits(forms: &[u8; 26], numbers: &[i32; 26], kind: Kind) -> bool
 }
 
 // Whether a block of a kind has a listed set of letters, each in its place.
-pub fn is_listed(forms: &[u8; 26], numbers: &[i32; 26], tally: Tally, kind: Kind) -> bool
-    ensures { λ r. ⌜ r ≡ isListed (wordsWith (now (forms .entry)) (now (numbers .entry)) tally) kind ⌝ }
+pub fn is_listed(forms: &[u8; 26], numbers: &[i32; 26], summary: Summary, kind: Kind) -> bool
+    ensures { λ r. ⌜ r ≡ isCounted (lettersOf (now (forms .entry)) (now (numbers .entry))) summary kind ⌝ }
 {
-    !tally.misplaced
+    !summary.misplaced
         & kind_fits(forms, numbers, kind)
-        & beside_fits(tally, kind)
-        & form_fits(forms, numbers, tally, kind)
+        & beside_fits(summary, kind)
+        & form_fits(forms, numbers, summary, kind)
 }

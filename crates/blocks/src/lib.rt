@@ -1,10 +1,10 @@
 // From the words of a block to what it asks for: its kind, refusals 5 and 6, and the block of its kind.
 ghost use mathlib.Core.Path.{_≡_};
 ghost use Rattle.blocks.specs.Decoding.{judgedOf};
-ghost use Rattle.words.specs.Keeping.{wordsWith};
+ghost use Rattle.words.specs.Keeping.{lettersOf};
 use aries::block::Judged;
 use aries::refusal;
-use words::Tally;
+use words::Summary;
 
 pub mod kind; // codes
 pub mod letters; // refusal 5
@@ -13,16 +13,16 @@ pub mod numbers; // refusal 6
 pub mod request; // what a block asks for
 
 // The kind of a block and its G90 or G91, or refusal 5 or 6.
-pub fn judge(forms: &[u8; 26], numbers: &[i32; 26], tally: Tally) -> Judged
-    ensures { λ r. ⌜ r ≡ judgedOf (wordsWith (now (forms .entry)) (now (numbers .entry)) tally) ⌝ }
+pub fn judge(forms: &[u8; 26], numbers: &[i32; 26], summary: Summary) -> Judged
+    ensures { λ r. ⌜ r ≡ judgedOf (lettersOf (now (forms .entry)) (now (numbers .entry))) summary ⌝ }
 {
-    let kind = kind::kind_of(forms, numbers, tally);
-    if !letters::is_listed(forms, numbers, tally, kind) {
+    let kind = kind::kind_of(forms, numbers, summary);
+    if !letters::is_listed(forms, numbers, summary, kind) {
         return Judged::Refused(refusal::NOT_LISTED);
     }
     if !numbers::is_ranged(forms, numbers, kind) {
         return Judged::Refused(refusal::WRONG_NUMBER);
     }
-    let measure = request::measure_of(tally);
+    let measure = request::measure_of(summary);
     Judged::Of(kind, measure)
 }

@@ -1,9 +1,9 @@
 ghost use mathlib.Core.Path.{_≡_};
 ghost use Rattle.aries.specs.declared.block.Kind.the-variants.{G98};
-ghost use Rattle.aries.specs.Blocks.{aboveZero, notNegative, whole, signedWhole, numberFits, rangesOf, commonRanges, isRanged};
+ghost use Rattle.aries.specs.Numbers.{aboveZero, notNegative, whole, signedWhole, numberFits, rangesOf, commonRanges, isRanged};
 ghost use Rattle.aries.specs.Test.{every, within};
 ghost use Rattle.blocks.specs.Decoding.{passes};
-ghost use Rattle.words.specs.Keeping.{wordsOf};
+ghost use Rattle.words.specs.Keeping.{lettersOf};
 use crate::lookup::is_negative;
 use crate::lookup::is_plain;
 use crate::lookup::is_positive;
@@ -53,7 +53,7 @@ fn signed_whole(v: Word, least: u32, most: u32) -> bool
 
 // N, T and A, wherever they stand.
 fn common_fit(forms: &[u8; 26], numbers: &[i32; 26]) -> bool
-    ensures { λ r. ⌜ r ≡ every (numberFits (wordsOf (now (forms .entry)) (now (numbers .entry)))) commonRanges ⌝ }
+    ensures { λ r. ⌜ r ≡ every (numberFits (lettersOf (now (forms .entry)) (now (numbers .entry)))) commonRanges ⌝ }
 {
     whole(word_at(forms, numbers, b'N'), 0, 9999)
         & whole(word_at(forms, numbers, b'T'), 1, 99)
@@ -62,7 +62,7 @@ fn common_fit(forms: &[u8; 26], numbers: &[i32; 26]) -> bool
 
 // The numbers of G98: lengths that are not negative, and steps of at most 99.
 fn layout_fits(forms: &[u8; 26], numbers: &[i32; 26]) -> bool
-    ensures { λ r. ⌜ r ≡ every (numberFits (wordsOf (now (forms .entry)) (now (numbers .entry)))) (rangesOf G98) ⌝ }
+    ensures { λ r. ⌜ r ≡ every (numberFits (lettersOf (now (forms .entry)) (now (numbers .entry)))) (rangesOf G98) ⌝ }
 {
     let lengths = not_negative(word_at(forms, numbers, b'X'))
         & not_negative(word_at(forms, numbers, b'Y'))
@@ -76,7 +76,7 @@ fn layout_fits(forms: &[u8; 26], numbers: &[i32; 26]) -> bool
 
 // The letters of a kind whose numbers are limited.
 fn ranges_fit(forms: &[u8; 26], numbers: &[i32; 26], kind: Kind) -> bool
-    ensures { λ r. ⌜ r ≡ every (numberFits (wordsOf (now (forms .entry)) (now (numbers .entry)))) (rangesOf kind) ⌝ }
+    ensures { λ r. ⌜ r ≡ every (numberFits (lettersOf (now (forms .entry)) (now (numbers .entry)))) (rangesOf kind) ⌝ }
 {
     match kind {
         Kind::G26 => above_zero(word_at(forms, numbers, b'I'))
@@ -99,7 +99,7 @@ fn ranges_fit(forms: &[u8; 26], numbers: &[i32; 26], kind: Kind) -> bool
 
 // Whether the numbers of a block of a kind are of the right kind and in their ranges.
 pub fn is_ranged(forms: &[u8; 26], numbers: &[i32; 26], kind: Kind) -> bool
-    ensures { λ r. ⌜ r ≡ isRanged (wordsOf (now (forms .entry)) (now (numbers .entry))) kind ⌝ }
+    ensures { λ r. ⌜ r ≡ isRanged (lettersOf (now (forms .entry)) (now (numbers .entry))) kind ⌝ }
 {
     ranges_fit(forms, numbers, kind) & common_fit(forms, numbers)
 }

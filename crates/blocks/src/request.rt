@@ -1,13 +1,13 @@
 ghost use mathlib.Core.Path.{_≡_};
 ghost use mathlib.Core.Bool.{true};
-ghost use mathlib.Core.List.{[]};
 ghost use Prim.Native.Nat.{_≤_};
 ghost use lib.IntN.{natAbs};
-ghost use Rattle.aries.specs.Blocks.{count, axes, steps, named, layout, copies, line, arc, circle, grid, run, mBlock, isRanged, blockOf, measureOf};
+ghost use Rattle.aries.specs.Numbers.{isRanged};
+ghost use Rattle.aries.specs.Blocks.{count, axes, steps, pointOfXY, layout, copies, linePattern, arcPattern, circlePattern, gridPattern, patternBlock, mBlock, blockOf};
 ghost use Rattle.aries.specs.Letters.{letterA, letterK, letterP, letterQ, letterT, letterW};
-ghost use Rattle.blocks.specs.Clean.{Clean};
+ghost use Rattle.blocks.specs.Sized.{Sized};
 ghost use Rattle.blocks.specs.Decoding.{axisOf};
-ghost use Rattle.words.specs.Keeping.{wordsFrom, wordsOf};
+ghost use Rattle.words.specs.Keeping.{lettersOf, measureBy};
 use crate::lookup::is_negative;
 use crate::lookup::size_of;
 use crate::lookup::word_at;
@@ -25,7 +25,7 @@ use aries::block::Pitch;
 use aries::block::Steps;
 use aries::point::Point;
 use aries::word::Word;
-use words::Tally;
+use words::Summary;
 
 // A whole number of a word that a byte holds: a tool, a memory, a macro, a corner.
 fn small(v: Word) -> u8
@@ -55,7 +55,7 @@ fn axis_of(v: Word) -> Axis
 
 // X and Y as they are written.
 fn axes_of(forms: &[u8; 26], numbers: &[i32; 26]) -> Axes
-    ensures { λ r. ⌜ r ≡ axes (wordsOf (now (forms .entry)) (now (numbers .entry))) ⌝ }
+    ensures { λ r. ⌜ r ≡ axes (lettersOf (now (forms .entry)) (now (numbers .entry))) ⌝ }
 {
     let x = axis_of(word_at(forms, numbers, b'X'));
     let y = axis_of(word_at(forms, numbers, b'Y'));
@@ -64,7 +64,7 @@ fn axes_of(forms: &[u8; 26], numbers: &[i32; 26]) -> Axes
 
 // X and Y as a point; an absent one is zero.
 fn point_of(forms: &[u8; 26], numbers: &[i32; 26]) -> Point
-    ensures { λ r. ⌜ r ≡ named (wordsOf (now (forms .entry)) (now (numbers .entry))) ⌝ }
+    ensures { λ r. ⌜ r ≡ pointOfXY (lettersOf (now (forms .entry)) (now (numbers .entry))) ⌝ }
 {
     let x = word_at(forms, numbers, b'X');
     let y = word_at(forms, numbers, b'Y');
@@ -76,8 +76,8 @@ fn point_of(forms: &[u8; 26], numbers: &[i32; 26]) -> Point
 
 // P and K as steps.
 fn steps_of(forms: &[u8; 26], numbers: &[i32; 26]) -> Steps
-    requires { ⌜ (count (wordsOf (now forms) (now numbers)) letterP ≤ 999) × (count (wordsOf (now forms) (now numbers)) letterK ≤ 999) ⌝ }
-    ensures { λ r. ⌜ r ≡ steps (wordsOf (now (forms .entry)) (now (numbers .entry))) ⌝ }
+    requires { ⌜ (count (lettersOf (now forms) (now numbers)) letterP ≤ 999) × (count (lettersOf (now forms) (now numbers)) letterK ≤ 999) ⌝ }
+    ensures { λ r. ⌜ r ≡ steps (lettersOf (now (forms .entry)) (now (numbers .entry))) ⌝ }
 {
     Steps {
         x: count(word_at(forms, numbers, b'P')),
@@ -87,9 +87,9 @@ fn steps_of(forms: &[u8; 26], numbers: &[i32; 26]) -> Steps
 
 // What G98 sets; D is added to both pitches.
 fn layout_of(forms: &[u8; 26], numbers: &[i32; 26]) -> Layout
-    requires { ⌜ Clean (wordsOf (now forms) (now numbers)) ⌝ }
-    requires { ⌜ (count (wordsOf (now forms) (now numbers)) letterP ≤ 999) × (count (wordsOf (now forms) (now numbers)) letterK ≤ 999) ⌝ }
-    ensures { λ r. ⌜ r ≡ layout (wordsOf (now (forms .entry)) (now (numbers .entry))) ⌝ }
+    requires { ⌜ Sized (lettersOf (now forms) (now numbers)) ⌝ }
+    requires { ⌜ (count (lettersOf (now forms) (now numbers)) letterP ≤ 999) × (count (lettersOf (now forms) (now numbers)) letterK ≤ 999) ⌝ }
+    ensures { λ r. ⌜ r ≡ layout (lettersOf (now (forms .entry)) (now (numbers .entry))) ⌝ }
 {
     let reference = point_of(forms, numbers);
     let i = size_of(word_at(forms, numbers, b'I'));
@@ -106,8 +106,8 @@ fn layout_of(forms: &[u8; 26], numbers: &[i32; 26]) -> Layout
 
 // The part and the corner of a G75 block, or with vertical of a G76 block.
 fn copies_of(forms: &[u8; 26], numbers: &[i32; 26], vertical: bool) -> Copies
-    requires { ⌜ (count (wordsOf (now forms) (now numbers)) letterW ≤ 255) × (count (wordsOf (now forms) (now numbers)) letterQ ≤ 255) ⌝ }
-    ensures { λ r. ⌜ r ≡ copies vertical (wordsOf (now (forms .entry)) (now (numbers .entry))) ⌝ }
+    requires { ⌜ (count (lettersOf (now forms) (now numbers)) letterW ≤ 255) × (count (lettersOf (now forms) (now numbers)) letterQ ≤ 255) ⌝ }
+    ensures { λ r. ⌜ r ≡ copies vertical (lettersOf (now (forms .entry)) (now (numbers .entry))) ⌝ }
 {
     let part = small(word_at(forms, numbers, b'W'));
     let corner = small(word_at(forms, numbers, b'Q'));
@@ -120,8 +120,8 @@ fn copies_of(forms: &[u8; 26], numbers: &[i32; 26], vertical: bool) -> Copies
 
 // G28.
 fn line_of(forms: &[u8; 26], numbers: &[i32; 26]) -> Pattern
-    requires { ⌜ count (wordsOf (now forms) (now numbers)) letterK ≤ 999 ⌝ }
-    ensures { λ r. ⌜ r ≡ line (wordsOf (now (forms .entry)) (now (numbers .entry))) ⌝ }
+    requires { ⌜ count (lettersOf (now forms) (now numbers)) letterK ≤ 999 ⌝ }
+    ensures { λ r. ⌜ r ≡ linePattern (lettersOf (now (forms .entry)) (now (numbers .entry))) ⌝ }
 {
     let i = word_at(forms, numbers, b'I');
     let j = word_at(forms, numbers, b'J');
@@ -135,8 +135,8 @@ fn line_of(forms: &[u8; 26], numbers: &[i32; 26]) -> Pattern
 
 // G29, in which P is an angle.
 fn arc_of(forms: &[u8; 26], numbers: &[i32; 26]) -> Pattern
-    requires { ⌜ count (wordsOf (now forms) (now numbers)) letterK ≤ 999 ⌝ }
-    ensures { λ r. ⌜ r ≡ arc (wordsOf (now (forms .entry)) (now (numbers .entry))) ⌝ }
+    requires { ⌜ count (lettersOf (now forms) (now numbers)) letterK ≤ 999 ⌝ }
+    ensures { λ r. ⌜ r ≡ arcPattern (lettersOf (now (forms .entry)) (now (numbers .entry))) ⌝ }
 {
     let i = word_at(forms, numbers, b'I');
     let j = word_at(forms, numbers, b'J');
@@ -152,8 +152,8 @@ fn arc_of(forms: &[u8; 26], numbers: &[i32; 26]) -> Pattern
 
 // G26: K negative is clockwise.
 fn circle_of(forms: &[u8; 26], numbers: &[i32; 26]) -> Pattern
-    requires { ⌜ count (wordsOf (now forms) (now numbers)) letterK ≤ 999 ⌝ }
-    ensures { λ r. ⌜ r ≡ circle (wordsOf (now (forms .entry)) (now (numbers .entry))) ⌝ }
+    requires { ⌜ count (lettersOf (now forms) (now numbers)) letterK ≤ 999 ⌝ }
+    ensures { λ r. ⌜ r ≡ circlePattern (lettersOf (now (forms .entry)) (now (numbers .entry))) ⌝ }
 {
     let i = word_at(forms, numbers, b'I');
     let j = word_at(forms, numbers, b'J');
@@ -170,8 +170,8 @@ fn circle_of(forms: &[u8; 26], numbers: &[i32; 26]) -> Pattern
 
 // G36, or with vertical G37.
 fn grid_of(forms: &[u8; 26], numbers: &[i32; 26], vertical: bool) -> Pattern
-    requires { ⌜ (count (wordsOf (now forms) (now numbers)) letterP ≤ 999) × (count (wordsOf (now forms) (now numbers)) letterK ≤ 999) ⌝ }
-    ensures { λ r. ⌜ r ≡ grid vertical (wordsOf (now (forms .entry)) (now (numbers .entry))) ⌝ }
+    requires { ⌜ (count (lettersOf (now forms) (now numbers)) letterP ≤ 999) × (count (lettersOf (now forms) (now numbers)) letterK ≤ 999) ⌝ }
+    ensures { λ r. ⌜ r ≡ gridPattern vertical (lettersOf (now (forms .entry)) (now (numbers .entry))) ⌝ }
 {
     let i = word_at(forms, numbers, b'I');
     let j = word_at(forms, numbers, b'J');
@@ -188,13 +188,13 @@ fn grid_of(forms: &[u8; 26], numbers: &[i32; 26], vertical: bool) -> Pattern
 }
 
 // A pattern with its T and A.
-fn run_of(forms: &[u8; 26], numbers: &[i32; 26], p: Pattern) -> Block
-    requires { ⌜ (count (wordsOf (now forms) (now numbers)) letterT ≤ 255) × (count (wordsOf (now forms) (now numbers)) letterA ≤ 255) ⌝ }
-    ensures { λ r. ⌜ r ≡ run (wordsOf (now (forms .entry)) (now (numbers .entry))) p ⌝ }
+fn pattern_block(forms: &[u8; 26], numbers: &[i32; 26], p: Pattern) -> Block
+    requires { ⌜ (count (lettersOf (now forms) (now numbers)) letterT ≤ 255) × (count (lettersOf (now forms) (now numbers)) letterA ≤ 255) ⌝ }
+    ensures { λ r. ⌜ r ≡ patternBlock (lettersOf (now (forms .entry)) (now (numbers .entry))) p ⌝ }
 {
     let tool = small(word_at(forms, numbers, b'T'));
     let memory = small(word_at(forms, numbers, b'A'));
-    Block::Direct(Direct::Run(p, tool, memory))
+    Block::Direct(Direct::RunPattern(p, tool, memory))
 }
 
 // An M code: M12 and M13 set the mode, the others make no hit.
@@ -212,16 +212,16 @@ fn m_block(n: u32) -> Block
 
 // What a block of a kind asks for.
 pub fn block_of(forms: &[u8; 26], numbers: &[i32; 26], kind: Kind) -> Block
-    requires { ⌜ Clean (wordsOf (now forms) (now numbers)) ⌝ }
-    requires { ⌜ isRanged (wordsOf (now forms) (now numbers)) kind ≡ true ⌝ }
-    ensures { λ r. ⌜ r ≡ blockOf (wordsOf (now (forms .entry)) (now (numbers .entry))) kind ⌝ }
+    requires { ⌜ Sized (lettersOf (now forms) (now numbers)) ⌝ }
+    requires { ⌜ isRanged (lettersOf (now forms) (now numbers)) kind ≡ true ⌝ }
+    ensures { λ r. ⌜ r ≡ blockOf (lettersOf (now (forms .entry)) (now (numbers .entry))) kind ⌝ }
 {
     match kind {
-        Kind::G26 => run_of(forms, numbers, circle_of(forms, numbers)),
-        Kind::G28 => run_of(forms, numbers, line_of(forms, numbers)),
-        Kind::G29 => run_of(forms, numbers, arc_of(forms, numbers)),
-        Kind::G36 => run_of(forms, numbers, grid_of(forms, numbers, false)),
-        Kind::G37 => run_of(forms, numbers, grid_of(forms, numbers, true)),
+        Kind::G26 => pattern_block(forms, numbers, circle_of(forms, numbers)),
+        Kind::G28 => pattern_block(forms, numbers, line_of(forms, numbers)),
+        Kind::G29 => pattern_block(forms, numbers, arc_of(forms, numbers)),
+        Kind::G36 => pattern_block(forms, numbers, grid_of(forms, numbers, false)),
+        Kind::G37 => pattern_block(forms, numbers, grid_of(forms, numbers, true)),
         Kind::G50 => Block::Outside(Outside::End),
         Kind::G70 => Block::Direct(Direct::Move(
             axes_of(forms, numbers),
@@ -248,16 +248,16 @@ pub fn block_of(forms: &[u8; 26], numbers: &[i32; 26], kind: Kind) -> Block
 }
 
 // The G90 or G91 of a block.
-pub fn measure_of(tally: Tally) -> Measure
-    ensures { λ r. ⌜ r ≡ measureOf (wordsFrom [] tally) ⌝ }
+pub fn measure_of(summary: Summary) -> Measure
+    ensures { λ r. ⌜ r ≡ measureBy summary ⌝ }
 {
-    if tally.read {
-        if tally.incremental {
+    if summary.read {
+        if summary.incremental {
             Measure::Incremental
         } else {
             Measure::Absolute
         }
     } else {
-        Measure::Kept
+        Measure::Unchanged
     }
 }

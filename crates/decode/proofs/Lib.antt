@@ -1,3 +1,2 @@
-pub mod CleanWords
-pub mod Judging
+pub mod LineWords
 pub mod Decoding

@@ -13,15 +13,15 @@ pub fn decode(text: &[u8], at: usize) -> Decoded
 {
     let mut forms = [0; 26];
     let mut numbers = [0; 26];
-    let tally = words::read_words(text, at, &mut forms, &mut numbers);
-    if !tally.formed {
+    let summary = words::read_words(text, at, &mut forms, &mut numbers);
+    if !summary.formed {
         return Decoded::Refused(refusal::WORD_FORM);
     }
-    let judged = blocks::judge(&forms, &numbers, tally);
+    let judged = blocks::judge(&forms, &numbers, summary);
     match judged {
         Judged::Of(kind, measure) => {
             let block = block_of(&forms, &numbers, kind);
-            Decoded::Instruction(Instruction { measure, block }, tally.end)
+            Decoded::Instruction(Instruction { measure, block }, summary.end)
         }
         Judged::Refused(number) => Decoded::Refused(number),
     }

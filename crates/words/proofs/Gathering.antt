@@ -1,159 +1,101 @@
--- Laws of `gather` and `gathered`: the words of a line one by one, and what the code answers of them.
+-- Laws of `words` and `formedWords`: the words of a line one by one, and what the code answers of them.
 -- Assumes nothing.
-use mathlib.Core.Path.{_≡_, refl, sym, ap, _∙_, subst}
+use mathlib.Core.Path.{_≡_, refl, sym, ap, _∙_}
 use mathlib.Core.Bool.{Bool, true, false, cond}
-use mathlib.Core.List.{List, [], _∷_}
+use mathlib.Core.List.{List, [], _∷_, _++_, append-nil}
 use mathlib.Core.Option.{Option, none, some}
 use Prim.Native.Nat.{ℕ, zero, suc, _+_, _-_, _≤_}
 use native.Mathlib.Omega.{arith}
 use lib.Dec.{eqb}
 use lib.IntN.{ℤ}
 use lib.ListN.{length, drop, length-drop}
-use lib.Seq.{drop-drop}
-use borrow.Author.Tests.{eqb-true, ne-eqb}
-use Rattle.aries.specs.declared.word.Words.{Words}
-use Rattle.aries.specs.Words.{Read, word, noWords, added, gather, words}
+use lib.Seq.{drop-drop, append-snoc}
+use borrow.Author.Tests.{eqb-true, eqb-false, eq-eqb, ne-eqb}
+use Rattle.aries.specs.Test.{isSome}
+use Rattle.aries.specs.Words.{LetterWord, word, frontWords, formedWords, sizeOf, words}
+use Rattle.aries.specs.ByLetter.{byLetter}
 use Rattle.text.specs.Lines.{lineLength}
-use Rattle.words.specs.declared.Tally.{Tally}
-use Rattle.words.specs.Gathering.{firstLine, Gathered, gathered, gatheredFrom, Gathers}
-use Rattle.words.specs.Keeping.{wordsWith}
-use Rattle.words.proofs.Word.{Formed, formed}
+use Rattle.words.specs.declared.Summary.{Summary}
+use Rattle.words.specs.Gathering.{firstLine, Gathers}
+use Rattle.words.specs.Keeping.{lettersOf, summaryOf}
+use Rattle.words.proofs.Word.{Formed, formed, WellFormed, well-formed}
 use Rattle.words.proofs.Line.{line-length, line-drop, line-word}
 
--- ---- one word
+-- ---- One word
 
-gathered-none : (n : ℕ) (w : Words) (at : ℕ) (bs : List ℕ) → word bs ≡ none
-    → gathered n w at bs ≡ record { words = w; end = at; formed = eqb (length bs) 0 }
-unfolding gathered
-gathered-none zero w at bs e = refl
-gathered-none (suc n) w at bs e = rw (e, gathered)
+front-none : (n : ℕ) (bs : List ℕ) → word bs ≡ none → frontWords n bs ≡ []
+unfolding frontWords
+front-none zero bs e = refl
+front-none (suc n) bs e = rw (e, frontWords)
 
-gathered-some : (n : ℕ) (w : Words) (at : ℕ) (bs : List ℕ) (r : Read) → word bs ≡ some r
-    → gathered (suc n) w at bs ≡ gathered n (added w (r .letter) (r .word)) (at + r .size) (drop (r .size) bs)
-unfolding gathered
-gathered-some n w at bs r e = rw (e, gathered)
+front-some :
+    (n : ℕ) (bs : List ℕ) (r : LetterWord) → word bs ≡ some r
+    → frontWords (suc n) bs ≡ r ∷ frontWords n (drop (r .size) bs)
+unfolding frontWords
+front-some n bs r e = rw (e, frontWords)
 
--- ---- all words
+sizes-more : (ws : List LetterWord) (r : LetterWord) → sizeOf (ws ++ r ∷ []) ≡ sizeOf ws + r .size
+sizes-more [] r = omega arith
+sizes-more (w ∷ ws) r = omega (arith, sizes-more ws r)
 
--- bytes are left
-some-left : (b : ℕ) (bs : List ℕ) → eqb (length (b ∷ bs)) 0 ≡ false
-some-left b bs = ne-eqb (length (b ∷ bs)) 0 (λ e. omega arith)
+-- ---- All words
 
--- words as `gather` gives them
-abbrev ifFormed : Gathered → Option Words
-ifFormed g = cond (g .formed) (some (g .words)) none
-
--- they are those of the line where no bytes are left
-gathered-gather : (n : ℕ) (w : Words) (at : ℕ) (bs : List ℕ) → gather n w bs ≡ ifFormed (gathered n w at bs)
-unfolding gather gathered word
-gathered-gather zero w at [] = refl
-gathered-gather zero w at (b ∷ bs) = rw (some-left b bs)
-gathered-gather (suc n) w at [] = refl
-gathered-gather (suc n) w at (b ∷ bs) =
-    go (word (b ∷ bs)) refl
-    (λ r. gathered-gather n (added w (r .letter) (r .word)) (at + r .size) (drop (r .size) (b ∷ bs)))
+-- tests of equality that go alike
+pub same-test : (a b c d : ℕ) → (a ≡ b → c ≡ d) → (c ≡ d → a ≡ b) → eqb a b ≡ eqb c d
+same-test a b c d f g = go (eqb c d) refl
   where
-    go :
-        (o : Option Read) → word (b ∷ bs) ≡ o
-        → ((r : Read)
-        → gather n (added w (r .letter) (r .word)) (drop (r .size) (b ∷ bs))
-        ≡ ifFormed (gathered n (added w (r .letter) (r .word)) (at + r .size) (drop (r .size) (b ∷ bs))))
-        → gather (suc n) w (b ∷ bs) ≡ ifFormed (gathered (suc n) w at (b ∷ bs))
-    go none e rest = rw (gathered-none (suc n) w at (b ∷ bs) e, some-left b bs) (rw (e, gather))
-    go (some r) e rest = rw (gathered-some n w at (b ∷ bs) r e) (rw (e, gather) (rest r))
+    go : (t : Bool) → eqb c d ≡ t → eqb a b ≡ t
+    go true e = eq-eqb a b (g (eqb-true c d e))
+    go false e = ne-eqb a b (λ h. eqb-false c d e (f h))
 
--- what holds where no more are read, and with one word more, holds of them
-gathered-all :
-    (P : Words → ℕ → List ℕ → Gathered → Type 0)
-    → ((w : Words) (at : ℕ) (bs : List ℕ) → P w at bs (record { words = w; end = at; formed = eqb (length bs) 0 }))
-    → ((w : Words) (at : ℕ) (bs : List ℕ) (r : Read) (g : Gathered) → word bs ≡ some r
-    → P (added w (r .letter) (r .word)) (at + r .size) (drop (r .size) bs) g
-    → P w at bs g)
-    → (n : ℕ) (w : Words) (at : ℕ) (bs : List ℕ)
-    → P w at bs (gathered n w at bs)
-unfolding gathered
-gathered-all P stop more zero w at bs = stop w at bs
-gathered-all P stop more (suc n) w at bs =
-    go (word bs) refl
-    (λ r. gathered-all P stop more n (added w (r .letter) (r .word)) (at + r .size) (drop (r .size) bs))
-  where
-    next : Read → Gathered
-    next r = gathered n (added w (r .letter) (r .word)) (at + r .size) (drop (r .size) bs)
+some-if : {A : Type 0} (t : Bool) (a : A) → isSome (cond t (some a) none) ≡ t
+some-if true a = refl
+some-if false a = refl
 
-    go :
-        (o : Option Read) → word bs ≡ o
-        → ((r : Read) → P (added w (r .letter) (r .word)) (at + r .size) (drop (r .size) bs) (next r))
-        → P w at bs (gathered (suc n) w at bs)
-    go none e rest = rw (gathered-none (suc n) w at bs e) (stop w at bs)
-    go (some r) e rest = rw (gathered-some n w at bs r e) (more w at bs r (next r) e (rest r))
-
--- where no bytes are left they end where the line does
-gathered-end :
-    (n : ℕ) (w : Words) (at : ℕ) (bs : List ℕ) → gathered n w at bs .formed ≡ true
-    → gathered n w at bs .end ≡ at + length bs
-gathered-end =
-    gathered-all (λ w at bs g. g .formed ≡ true → g .end ≡ at + length bs)
-    (λ w at bs e. omega (arith, eqb-true (length bs) 0 e))
-    (λ w at bs r g f rest e. rest e ∙ omega (arith, formed bs r f .inside, length-drop (r .size) bs))
-
-words-gathered : (from : ℕ) (line : List ℕ) → words line ≡ ifFormed (gatheredFrom from line)
+all-formed : (line : List ℕ) → isSome (words line) ≡ eqb (sizeOf (formedWords line)) (length line)
 unfolding words
-words-gathered from line = gathered-gather (length line) noWords from line
+all-formed line = some-if (eqb (sizeOf (formedWords line)) (length line)) (formedWords line)
 
--- all words of a line have their form: they are those that were gathered, and no bytes are left
-all-formed :
-    (from : ℕ) (line : List ℕ) (v : Words) → words line ≡ some v
-    → (gatheredFrom from line .formed ≡ true) × (gatheredFrom from line .words ≡ v)
-all-formed from line v e = go (gatheredFrom from line .formed) refl
+-- words that were read
+abbrev pub AllFormed : List LetterWord → Type 0
+AllFormed [] = Unit {0}
+AllFormed (r ∷ rs) = WellFormed r × AllFormed rs
+
+pub front-formed : (n : ℕ) (bs : List ℕ) → AllFormed (frontWords n bs)
+unfolding frontWords
+front-formed zero bs = tt
+front-formed (suc n) bs = go (word bs) refl (λ r. front-formed n (drop (r .size) bs))
   where
     go :
-        (f : Bool) → gatheredFrom from line .formed ≡ f
-        → (gatheredFrom from line .formed ≡ true) × (gatheredFrom from line .words ≡ v)
-    go true f =
-        let s : words line ≡ some (gatheredFrom from line .words) = words-gathered from line ∙ simp f in
-        (f, cc)
-    go false f =
-        let s : words line ≡ none = words-gathered from line ∙ simp f in
-        let z : _≡_ {A = ℕ} 0 1 = cc in
-        absurd (omega arith)
+        (o : Option LetterWord) → word bs ≡ o → ((r : LetterWord) → AllFormed (frontWords n (drop (r .size) bs)))
+        → AllFormed (frontWords (suc n) bs)
+    go none e rest = rw (front-none (suc n) bs e) tt
+    go (some r) e rest = rw (front-some n bs r e) (well-formed bs r e, rest r)
 
--- what each word keeps holds of all words of a line
-pub words-keep :
-    (P : Words → Type 0)
-    → ((w : Words) (bs : List ℕ) (r : Read) → word bs ≡ some r → P w → P (added w (r .letter) (r .word)))
-    → P noWords → (line : List ℕ) (v : Words) → words line ≡ some v
-    → P v
-words-keep P more p line v e =
-    subst P (all-formed 0 line v e .1)
-    (gathered-all (λ w at bs g. P w → P (g .words)) (λ w at bs q. q)
-    (λ w at bs r g f rest q. rest (more w bs r f q)) (length line) noWords 0 line p)
+-- ---- The words of a line, read in a text
 
--- ---- the words of a line, read in a text
-
--- The words from a place of the line on, after those read before, are those of the line; and how many suffice for them.
-pub record Goes (t : List ℕ) (from at : ℕ) (w : Words) : Type 0 where
+-- The words before a place of the line, and then those from there on, are those of the line; how many suffice for them;
+-- and the bytes of both.
+pub record Goes (t : List ℕ) (from at : ℕ) (before : List LetterWord) : Type 0 where
   pub most : ℕ
   pub enough : lineLength (drop at t) ≤ most
-  pub same : gathered most w at (firstLine (drop at t)) ≡ gatheredFrom from (firstLine (drop from t))
+  pub same : formedWords (firstLine (drop from t)) ≡ before ++ frontWords most (firstLine (drop at t))
+  pub here : at ≡ from + sizeOf before
+  pub left : lineLength (drop from t) ≡ sizeOf before + lineLength (drop at t)
 
-pub goes-start : (t : List ℕ) (from : ℕ) → Goes t from from noWords
+pub goes-start : (t : List ℕ) (from : ℕ) → Goes t from from []
 goes-start t from =
-    record { most = length (firstLine (drop from t)); enough = omega (arith, line-length (drop from t)); same = refl }
+    record {
+      most = length (firstLine (drop from t));
+      enough = omega (arith, line-length (drop from t));
+      same = refl;
+      here = omega arith;
+      left = omega arith;
+    }
 
-module _ (t : List ℕ) (from at : ℕ) (w : Words) (g : Goes t from at w) where
-  -- no word follows
-  pub goes-none :
-      word (drop at t) ≡ none
-      → gatheredFrom from (firstLine (drop from t))
-      ≡ record { words = w; end = at; formed = eqb (lineLength (drop at t)) 0 }
-  goes-none e =
-      sym (g .same)
-      ∙ gathered-none (g .most) w at (firstLine (drop at t)) (line-word (drop at t) ∙ e)
-      ∙ rw (line-length (drop at t))
-
+module _ (t : List ℕ) (from at : ℕ) (before : List LetterWord) (g : Goes t from at before) where
   -- a word follows
-  pub goes-some :
-      (r : Read) → word (drop at t) ≡ some r → Goes t from (at + r .size) (added w (r .letter) (r .word))
+  pub goes-some : (r : LetterWord) → word (drop at t) ≡ some r → Goes t from (at + r .size) (before ++ r ∷ [])
   goes-some r e =
       let line : List ℕ = firstLine (drop at t) in
       let found : word line ≡ some r = line-word (drop at t) ∙ e in
@@ -161,42 +103,60 @@ module _ (t : List ℕ) (from at : ℕ) (w : Words) (g : Goes t from at w) where
       let size : length line ≡ lineLength (drop at t) = line-length (drop at t) in
       let rest : drop (r .size) line ≡ firstLine (drop (at + r .size) t) =
       line-drop (r .size) (drop at t) (omega arith) ∙ ap firstLine (drop-drop (r .size) at t) in
-      let left : lineLength (drop (at + r .size) t) ≡ length line - r .size =
+      let fewer : lineLength (drop (at + r .size) t) ≡ length line - r .size =
       sym (line-length (drop (at + r .size) t)) ∙ ap length (sym rest) ∙ length-drop (r .size) line in
       let m : g .most ≡ suc (g .most - 1) = omega arith in
       record {
         most = g .most - 1;
         enough = omega arith;
         same =
-            rw (← rest)
-            (sym (gathered-some (g .most - 1) w at line r found) ∙ ap (λ (n : ℕ). gathered n w at line) (sym m) ∙ g .same);
+            g .same
+            ∙ ap (λ (n : ℕ). before ++ frontWords n line) m
+            ∙ ap (_++_ before) (front-some (g .most - 1) line r found)
+            ∙ rw rest (sym (append-snoc before r (frontWords (g .most - 1) (firstLine (drop (at + r .size) t)))));
+        here = omega (arith, g .here, sizes-more before r);
+        left = omega (arith, g .left, sizes-more before r);
       }
 
--- ---- the code's answer
+  -- no word follows: the code's answer
+  module _ (e : word (drop at t) ≡ none) where
+    abbrev line : List ℕ
+    line = firstLine (drop from t)
 
-module _ (line : List ℕ) (from : ℕ) (r : Tally) (forms : List ℕ) (numbers : List ℤ) where
-  pub gathers :
-      gatheredFrom from line ≡ record { words = wordsWith forms numbers r; end = r .end; formed = r .formed }
-      → Gathers line from r forms numbers
-  gathers e =
-      record {
-        given = words-gathered from line ∙ ap ifFormed e;
-        left = sym (ap (λ (g : Gathered). g .words) e);
-        end = sym (ap (λ (g : Gathered). g .end) e);
-      }
+    ended : formedWords line ≡ before
+    ended =
+        g .same
+        ∙ ap (_++_ before) (front-none (g .most) (firstLine (drop at t)) (line-word (drop at t) ∙ e))
+        ∙ append-nil before
 
-  module _ (g : Gathers line from r forms numbers) where
-    -- all words have their form: these are they
-    pub gathers-words : r .formed ≡ true → words line ≡ some (wordsWith forms numbers r)
-    gathers-words t = g .given ∙ rw t
+    pub gathers :
+        (r : Summary) (forms : List ℕ) (numbers : List ℤ) → r ≡ summaryOf (eqb (lineLength (drop at t)) 0) at before
+        → lettersOf forms numbers ≡ byLetter before .letters
+        → Gathers line from r forms numbers
+    gathers r forms numbers s l =
+        let whole : isSome (words line) ≡ eqb (lineLength (drop at t)) 0 =
+        all-formed line
+        ∙ rw ended
+        (same-test (sizeOf before) (length line) (lineLength (drop at t)) 0
+        (λ h. omega (arith, g .left, line-length (drop from t)))
+        (λ h. omega (arith, g .left, line-length (drop from t)))) in
+        record { told = rw (whole, ended, ← g .here) s; letters = rw ended l }
 
-    -- they end where the line does
-    pub gathers-end : r .formed ≡ true → r .end ≡ from + length line
-    gathers-end t =
-        g .end
-        ∙ gathered-end (length line) noWords from line
-        (all-formed from line (wordsWith forms numbers r) (gathers-words t) .0)
+-- ---- What the answer says
 
-    -- one of them has not
-    pub gathers-none : r .formed ≡ false → words line ≡ none
-    gathers-none t = g .given ∙ rw t
+module _ (line : List ℕ) (from : ℕ) (r : Summary) (forms : List ℕ) (numbers : List ℤ) (g : Gathers line from r forms numbers) where
+  -- all words have their form, or not
+  is-formed : isSome (words line) ≡ r .formed
+  unfolding summaryOf
+  is-formed = sym (ap (λ (s : Summary). s .formed) (g .told))
+
+  pub gathers-words : words line ≡ cond (r .formed) (some (formedWords line)) none
+  unfolding words
+  gathers-words = rw (sym (all-formed line) ∙ is-formed)
+
+  -- they end where the line does
+  pub gathers-end : r .formed ≡ true → r .end ≡ from + length line
+  unfolding summaryOf
+  gathers-end t =
+      ap (λ (s : Summary). s .end) (g .told)
+      ∙ ap (_+_ from) (eqb-true (sizeOf (formedWords line)) (length line) (sym (all-formed line) ∙ is-formed ∙ t))

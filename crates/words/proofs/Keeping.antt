@@ -1,4 +1,4 @@
--- Laws of the words as the code keeps them: a word in its place of both lists, and all words with a tally.
+-- Laws of the words as the code keeps them: a word in its place of both lists.
 -- Assumes nothing.
 use mathlib.Core.Path.{_≡_, refl, sym, ap, _∙_}
 use mathlib.Core.Bool.{Bool, true, false, and-false}
@@ -11,10 +11,8 @@ use lib.IntN.{ℤ, pos}
 use lib.ListN.{length, getD, set, drop, replicate}
 use borrow.Author.Tests.{ltb-true, le-ltb, le-leb}
 use Rattle.aries.specs.declared.word.Word.{Word}
-use Rattle.aries.specs.Words.{noWord, isPlain}
-use Rattle.aries.specs.declared.word.Words.{Words}
-use Rattle.words.specs.declared.Tally.{Tally}
-use Rattle.words.specs.Keeping.{wordIn, formOf, firstWords, lettersOf, wordsFrom, retold}
+use Rattle.aries.specs.ByLetter.{Letters, noWord, isPlain}
+use Rattle.words.specs.Keeping.{wordIn, formMark, firstWords, lettersOf}
 
 -- ---- one word
 
@@ -22,21 +20,21 @@ abbrev written : Bool → Bool → Bool → ℤ → Word
 written w signed pointed value = record { written = w; signed = signed; pointed = pointed; value = value }
 
 by-marks :
-    (signed pointed : Bool) (value : ℤ) → wordIn (formOf signed pointed) value ≡ written true signed pointed value
+    (signed pointed : Bool) (value : ℤ) → wordIn (formMark signed pointed) value ≡ written true signed pointed value
 by-marks true true value = refl
 by-marks true false value = refl
 by-marks false true value = refl
 by-marks false false value = refl
 
 -- a word that is written is what its form and its number stand for
-pub form-word : (v : Word) → v .written ≡ true → wordIn (formOf (v .signed) (v .pointed)) (v .value) ≡ v
+pub form-word : (v : Word) → v .written ≡ true → wordIn (formMark (v .signed) (v .pointed)) (v .value) ≡ v
 form-word v e =
     by-marks (v .signed) (v .pointed) (v .value)
     ∙ ap (λ (w : Bool). written w (v .signed) (v .pointed) (v .value)) (sym e)
 
 -- its form is not 0
-pub form-positive : (signed pointed : Bool) → 0 < formOf signed pointed
-form-positive s p = ltb-true 0 (formOf s p) (ap (λ (v : Word). v .written) (by-marks s p (pos 0)))
+pub form-positive : (signed pointed : Bool) → 0 < formMark signed pointed
+form-positive s p = ltb-true 0 (formMark s p) (ap (λ (v : Word). v .written) (by-marks s p (pos 0)))
 
 -- it has neither sign nor point where its form is below 2
 pub form-plain : (form : ℕ) (number : ℤ) → ltb form 2 ≡ isPlain (wordIn form number)
@@ -71,7 +69,7 @@ first-set (suc n) [] numbers i form number h k = absurd (not-suc-le-zero h)
 first-set (suc n) (f ∷ forms) [] i form number h k = absurd (not-suc-le-zero k)
 first-set (suc n) (f ∷ forms) (m ∷ numbers) zero form number h k = refl
 first-set (suc n) (f ∷ forms) (m ∷ numbers) (suc i) form number h k =
-    ap (λ (vs : List Word). wordIn f m ∷ vs) (first-set n forms numbers i form number (omega arith) (omega arith))
+    ap (λ (vs : Letters). wordIn f m ∷ vs) (first-set n forms numbers i form number (omega arith) (omega arith))
 
 -- the word at a place
 pub letters-at :
@@ -91,11 +89,3 @@ letters-set forms numbers i form number h k = first-set 26 forms numbers i form 
 pub letters-none : lettersOf (replicate 26 0) (replicate 26 (pos 0)) ≡ replicate 26 noWord
 unfolding lettersOf
 letters-none = refl
-
--- ---- with a tally
-
--- words from their letters and their tally
-pub words-from :
-    (w : Words) (letters : List Word) (t r : Tally) → letters ≡ w .letters → r ≡ retold t w → wordsFrom letters r ≡ w
-words-from w letters t r e f =
-    ap (wordsFrom letters) f ∙ ap (λ (vs : List Word). wordsFrom vs (retold t w)) e

@@ -2,7 +2,8 @@ pub mod Tests
 pub mod Bytes
 pub mod Numerals
 pub mod Word
-pub mod Added
+pub mod ByLetter
+pub mod Summaries
 pub mod Keeping
 pub mod Line
 pub mod Gathering

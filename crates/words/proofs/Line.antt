@@ -10,8 +10,8 @@ use lib.Dec.{eqb, ltb, lit<}
 use lib.ListN.{length, drop, getD, List·getD-eq-default}
 use lib.Seq.{length-take-le, getD-take}
 use borrow.Author.Tests.{eqb-true, eqb-false, ltb-true, ltb-false, ne-eqb}
-use Rattle.aries.specs.Text.{lineFeed, isCapital, isDigit}
-use Rattle.aries.specs.Words.{Digits, digits, isSign, point, frontSize, word}
+use Rattle.aries.specs.Text.{lineFeed, point, isCapital, isDigit}
+use Rattle.aries.specs.Words.{Digits, digits, isSign, frontSize, word}
 use Rattle.text.specs.Lines.{lineLength}
 use Rattle.text.proofs.Lines.{line-ends, line-goes-on, line-short, feed-after}
 use Rattle.words.specs.declared.Number.{Number}

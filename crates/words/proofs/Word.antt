@@ -14,8 +14,8 @@ use lib.ListN.{length, getD, drop, length-drop}
 use lib.Seq.{getD-drop, drop-drop}
 use borrow.Author.Tests.{le-leb, leb-true}
 use Rattle.aries.specs.Test.{within}
-use Rattle.aries.specs.Text.{isCapital}
-use Rattle.aries.specs.Words.{Digits, Read, digits, isSign, minus, point, frontSize, wordOf, word}
+use Rattle.aries.specs.Text.{minus, point, isCapital}
+use Rattle.aries.specs.Words.{Digits, LetterWord, digits, isSign, frontSize, wordOf, word}
 use Rattle.signed.proofs.Integers.{abs-withSign}
 use Rattle.signed.proofs.Tests.{and-left, and-right}
 use Rattle.words.specs.declared.Number.{Number}
@@ -86,7 +86,7 @@ number-fits t from n h e =
 -- ---- a word by its number
 
 -- from its letter, the byte where its sign is due, how many bytes these take, and its number
-abbrev pub readOf : ℕ → ℕ → ℕ → Number → Option Read
+abbrev pub readOf : ℕ → ℕ → ℕ → Number → Option LetterWord
 readOf letter sign front n =
     cond (isCapital letter && leb 1 (n .size))
     (some (record {
@@ -125,7 +125,7 @@ module _ (bs : List ℕ) where
           simp (e, g, h, k) (simp add-assoc)
 
 -- what holds of a word that was read from a line: its letter, its size and its value
-pub record Formed (bs : List ℕ) (r : Read) : Type 0 where
+pub record Formed (bs : List ℕ) (r : LetterWord) : Type 0 where
   pub capital : isCapital (r .letter) ≡ true
   -- it takes a byte at least, and none past the end
   pub some-bytes : 0 < r .size
@@ -133,11 +133,11 @@ pub record Formed (bs : List ℕ) (r : Read) : Type 0 where
   pub small : natAbs (r .word .value) ≤ 999999
   pub written : r .word .written ≡ true
 
-module _ (bs : List ℕ) (r : Read) (e : word bs ≡ some r) where
+module _ (bs : List ℕ) (r : LetterWord) (e : word bs ≡ some r) where
   abbrev n : Number
   n = number (drop (frontSize bs) bs)
 
-  abbrev found : Read
+  abbrev found : LetterWord
   found =
       record {
         letter = getD bs 0 0;
@@ -168,6 +168,15 @@ module _ (bs : List ℕ) (r : Read) (e : word bs ≡ some r) where
             written = refl;
           })
 
+-- what holds of a word wherever it was read
+pub record WellFormed (r : LetterWord) : Type 0 where
+  pub capital : isCapital (r .letter) ≡ true
+  pub written : r .word .written ≡ true
+  pub small : natAbs (r .word .value) ≤ 999999
+
+pub well-formed : (bs : List ℕ) (r : LetterWord) → word bs ≡ some r → WellFormed r
+well-formed bs r e = let f = formed bs r e in record { capital = f .capital; written = f .written; small = f .small }
+
 -- ---- the code's answer
 
 module _ (t : List ℕ) (at : ℕ) where
@@ -197,11 +206,11 @@ module _ (t : List ℕ) (at : ℕ) where
 -- ---- what an answer says of the word
 
 -- the word, by the code's answer
-abbrev pub readAs : ℕ → Reading → Read
+abbrev pub readAs : ℕ → Reading → LetterWord
 readAs at r = record { letter = r .letter; word = wordIn (r .form) (r .number); size = r .end - at }
 
 -- no form, no word
-pub answer-none : (at : ℕ) (o : Option Read) (r : Reading) → r ≡ readingAt at o → r .form ≡ 0 → o ≡ none
+pub answer-none : (at : ℕ) (o : Option LetterWord) (r : Reading) → r ≡ readingAt at o → r .form ≡ 0 → o ≡ none
 answer-none at none r e z = refl
 answer-none at (some v) r e z =
     let f : r .form ≡ readingAt at (some v) .form = ap (λ (q : Reading). q .form) e in
@@ -213,7 +222,7 @@ pub answer-some :
     → (word bs ≡ some (readAs at r)) × (at ≤ r .end)
 answer-some bs at r e z = go (word bs) refl
   where
-    go : (o : Option Read) → word bs ≡ o → (word bs ≡ some (readAs at r)) × (at ≤ r .end)
+    go : (o : Option LetterWord) → word bs ≡ o → (word bs ≡ some (readAs at r)) × (at ≤ r .end)
     go none f =
         let q : r .form ≡ 0 = ap (λ (q : Reading). q .form) (e ∙ ap (readingAt at) f) in
         absurd (z q)

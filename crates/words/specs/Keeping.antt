@@ -1,18 +1,22 @@
--- The words of a block as the code keeps them: two lists by letter, and a tally of the rest.
-use mathlib.Core.Path.{_≡_}
-use mathlib.Core.Bool.{Bool, true, false, cond, _||_}
+-- The words of a block as the code keeps them: two lists by letter, and a summary of the rest.
+use mathlib.Core.Bool.{Bool, true, not, cond, _&&_, _||_}
 use mathlib.Core.List.{List, [], _∷_}
-use Prim.Native.Nat.{ℕ, zero, suc}
+use mathlib.Core.Option.{Option, none, some, Option·getD}
+use Prim.Native.Nat.{ℕ, zero, suc, _+_}
 use lib.Dec.{leb, ltb, eqb}
 use lib.IntN.{ℤ, pos}
 use lib.ListN.{getD, drop}
 use Rattle.aries.specs.declared.word.Word.{Word}
-use Rattle.aries.specs.declared.word.Words.{Words}
-use Rattle.aries.specs.Letters.{letterG}
-use Rattle.aries.specs.Words.{has, added}
-use Rattle.words.specs.declared.Tally.{Tally}
+use Rattle.aries.specs.declared.block.Measure.{Measure}
+use Rattle.aries.specs.declared.block.Measure.the-variants.{Unchanged, Absolute, Incremental}
+use Rattle.aries.specs.Letters.{letterA, letterG, letterN}
+use Rattle.aries.specs.Test.{among, isEmpty, isSome}
+use Rattle.aries.specs.Words.{LetterWord}
+use Rattle.aries.specs.ByLetter.{Letters, Words, isEntry, patternCodes, isPlain, codeOf, isMeasure, byLetter}
+use Rattle.aries.specs.Forms.{isUnchanged, isG91, inPlaces}
+use Rattle.words.specs.declared.Summary.{Summary}
 
--- ---- by letter
+-- ---- By letter
 
 -- the word that a form and a number stand for
 abbrev pub wordIn : ℕ → ℤ → Word
@@ -20,77 +24,118 @@ wordIn form number =
     record { written = ltb 0 form; signed = eqb form 2 || eqb form 4; pointed = leb 3 form; value = number }
 
 -- the form of a word that is written, by whether it has a sign and a point
-abbrev pub formOf : Bool → Bool → ℕ
-formOf signed pointed = cond pointed (cond signed 4 3) (cond signed 2 1)
+abbrev pub formMark : Bool → Bool → ℕ
+formMark signed pointed = cond pointed (cond signed 4 3) (cond signed 2 1)
 
 -- the words that two lists stand for at their first places
-abbrev pub firstWords : ℕ → List ℕ → List ℤ → List Word
+abbrev pub firstWords : ℕ → List ℕ → List ℤ → Letters
 firstWords zero forms numbers = []
 firstWords (suc n) forms numbers =
     wordIn (getD forms 0 0) (getD numbers 0 (pos 0)) ∷ firstWords n (drop 1 forms) (drop 1 numbers)
 
 -- from A to Z
-unfoldable pub lettersOf : List ℕ → List ℤ → List Word
+unfoldable pub lettersOf : List ℕ → List ℤ → Letters
 lettersOf forms numbers = firstWords 26 forms numbers
 
--- ---- the rest
+-- ---- A summary of words
 
--- all words, from those by letter and a tally
-abbrev pub wordsFrom : List Word → Tally → Words
-wordsFrom letters t =
+-- how many words there are besides N and G
+abbrev pub othersIn : List LetterWord → ℕ
+othersIn [] = 0
+othersIn (r ∷ rs) = cond (among (letterN ∷ letterG ∷ []) (r .letter)) 0 1 + othersIn rs
+
+-- what is said of words in their order
+unfoldable pub summaryOf : Bool → ℕ → List LetterWord → Summary
+summaryOf formed end ws =
     record {
-      letters = letters;
-      others = t .others;
-      begun = t .begun;
-      coded = t .coded;
-      code = t .code;
-      read = t .read;
-      incremental = t .incremental;
-      misplaced = t .misplaced;
+      formed = formed;
+      end = end;
+      others = othersIn ws;
+      begun = not (isEmpty ws);
+      coded = isSome (byLetter ws .code);
+      code = Option·getD (byLetter ws .code) 0;
+      read = not (isUnchanged (byLetter ws .measure));
+      incremental = isG91 (byLetter ws .measure);
+      misplaced = not (inPlaces ws);
     }
 
--- a tally of other words
-abbrev pub retold : Tally → Words → Tally
-retold t w =
+-- the code and the G90 or G91 that it tells of
+abbrev pub codeBy : Summary → Option ℕ
+codeBy s = cond (s .coded) (some (s .code)) none
+
+abbrev pub measureBy : Summary → Measure
+measureBy s = cond (s .read) (cond (s .incremental) Incremental Absolute) Unchanged
+
+-- the words by letter, with a summary of the rest
+abbrev pub wordsBy : Letters → Summary → Words
+wordsBy letters s = record { letters = letters; code = codeBy s; measure = measureBy s }
+
+-- ---- A summary with a word more
+
+-- with G90 or G91
+abbrev pub withMeasure : Summary → Word → Summary
+withMeasure s v =
     record {
-      formed = t .formed;
-      end = t .end;
-      others = w .others;
-      begun = w .begun;
-      coded = w .coded;
-      code = w .code;
-      read = w .read;
-      incremental = w .incremental;
-      misplaced = w .misplaced;
+      formed = s .formed;
+      end = s .end;
+      others = s .others;
+      begun = true;
+      coded = s .coded;
+      code = s .code;
+      read = true;
+      incremental = eqb (codeOf v) 91;
+      misplaced = s .misplaced || s .read;
     }
 
--- A tally with a word more whose letter is not G, whatever the letters before it, but for whether its own is among them.
-pub record Tells (t : Tally) (letter : ℕ) (before : Bool) (answer : Tally) : Type 0 where
-  pub told :
-      (letters : List Word) (v : Word) → (letter ≡ letterG → ⊥) → before ≡ has (wordsFrom letters t) letter
-      → answer ≡ retold t (added (wordsFrom letters t) letter v)
-
--- nothing is said yet
-abbrev pub noTally : Tally
-noTally =
+-- with another G
+abbrev pub withCode : Summary → Word → Summary
+withCode s v =
     record {
-      formed = true;
-      end = 0;
-      others = 0;
-      begun = false;
-      coded = false;
-      code = 0;
-      read = false;
-      incremental = false;
-      misplaced = false;
+      formed = s .formed;
+      end = s .end;
+      others = s .others;
+      begun = true;
+      coded = true;
+      code = codeOf v;
+      read = s .read;
+      incremental = s .incremental;
+      misplaced = s .misplaced || (s .coded || not (isPlain v));
     }
 
--- ---- all words
+-- with a G
+abbrev pub withG : Summary → Word → Summary
+withG s v = cond (isMeasure v) (withMeasure s v) (withCode s v)
 
--- the words that two lists stand for, with a tally
-abbrev pub wordsWith : List ℕ → List ℤ → Tally → Words
-wordsWith forms numbers t = wordsFrom (lettersOf forms numbers) t
+-- with N
+abbrev pub withNumber : Summary → Summary
+withNumber s =
+    record {
+      formed = s .formed;
+      end = s .end;
+      others = s .others;
+      begun = true;
+      coded = s .coded;
+      code = s .code;
+      read = s .read;
+      incremental = s .incremental;
+      misplaced = s .misplaced || s .begun;
+    }
 
--- the words that two lists stand for, where nothing else is said of them
-abbrev pub wordsOf : List ℕ → List ℤ → Words
-wordsOf forms numbers = wordsWith forms numbers noTally
+-- with any other letter; before: it stands in the block already
+abbrev pub withOther : Summary → ℕ → Bool → Summary
+withOther s letter before =
+    record {
+      formed = s .formed;
+      end = s .end;
+      others = s .others + 1;
+      begun = true;
+      coded = s .coded;
+      code = s .code;
+      read = s .read;
+      incremental = s .incremental;
+      misplaced = s .misplaced || (before || (eqb letter letterA && (s .coded && isEntry patternCodes (s .code))));
+    }
+
+-- with a letter other than G
+abbrev pub withLetter : Summary → ℕ → Bool → Summary
+withLetter s letter before = cond (eqb letter letterN) (withNumber s) (withOther s letter before)

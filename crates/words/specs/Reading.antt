@@ -8,11 +8,12 @@ use lib.IntN.{pos}
 use lib.ListN.{getD, drop}
 use Rattle.signed.specs.Signed.{withSign}
 use Rattle.aries.specs.Test.{within}
-use Rattle.aries.specs.Words.{Digits, Read, digits, isSign, minus, point, hundredths}
+use Rattle.aries.specs.Text.{minus, point}
+use Rattle.aries.specs.Words.{Digits, LetterWord, digits, isSign, hundredths}
 use Rattle.words.specs.declared.Digits as code
 use Rattle.words.specs.declared.Number.{Number}
 use Rattle.words.specs.declared.Reading.{Reading}
-use Rattle.words.specs.Keeping.{formOf}
+use Rattle.words.specs.Keeping.{formMark}
 
 -- digits as the code holds them
 abbrev pub Held : Type 0
@@ -51,19 +52,19 @@ readingOf letter sign from n =
     cond (leb 1 (n .size))
     (record {
       letter = letter;
-      form = formOf (isSign sign) (n .pointed);
+      form = formMark (isSign sign) (n .pointed);
       number = withSign (eqb sign minus) (n .value);
       end = from + n .size;
     })
     noReading
 
 -- the word at a place, with the place past it
-abbrev pub readingAt : ℕ → Option Read → Reading
+abbrev pub readingAt : ℕ → Option LetterWord → Reading
 readingAt at none = noReading
 readingAt at (some r) =
     record {
       letter = r .letter;
-      form = formOf (r .word .signed) (r .word .pointed);
+      form = formMark (r .word .signed) (r .word .pointed);
       number = r .word .value;
       end = at + r .size;
     }

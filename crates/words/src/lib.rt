@@ -1,21 +1,18 @@
 // The words of a block: digits, a word, and all words of a line by their letters.
-ghost use mathlib.Core.List.{List, [], _∷_};
 ghost use mathlib.Core.Path.{_≡_};
 ghost use mathlib.Core.Bool.{cond, _&&_};
 ghost use Prim.Native.Nat.{_+_, _*_, _^_, _≤_, _<_};
 ghost use lib.Dec.{eqb};
 ghost use lib.IntN.{pos};
 ghost use lib.ListN.{drop, getD, replicate};
-ghost use Rattle.aries.specs.declared.word.Word.{Word};
-ghost use Rattle.aries.specs.Test.{among, within};
-ghost use Rattle.aries.specs.Letters.{letterA, letterG};
+ghost use Rattle.aries.specs.Test.{within};
+ghost use Rattle.aries.specs.Letters.{letterA};
 ghost use Rattle.aries.specs.Text.{isCapital, isDigit};
 ghost use Rattle.aries.specs.Words.{digits, isSign, word};
-ghost use Rattle.aries.specs.Words.{isPlain, isPatternCode};
-ghost use Rattle.aries.specs.Words.{noWord, withNumber, added};
+ghost use Rattle.aries.specs.ByLetter.{isEntry, patternCodes, measures, isPlain};
 ghost use Rattle.text.specs.Lines.{lineLength};
 ghost use Rattle.words.specs.Gathering.{firstLine, Gathers};
-ghost use Rattle.words.specs.Keeping.{wordIn, formOf, wordsFrom, retold, Tells};
+ghost use Rattle.words.specs.Keeping.{wordIn, formMark, withG, withNumber, withLetter};
 ghost use Rattle.words.specs.Reading.{held, noNumber, number, noReading, readingOf, readingAt};
 use aries::word::Word;
 use signed::size;
@@ -159,7 +156,7 @@ fn read_number(text: &[u8], from: usize) -> Number
 
 // The form of a word: 1, with a sign 2, with a point 3, with both 4.
 fn form_of(signed: bool, pointed: bool) -> u8
-    ensures { λ r. ⌜ r ≡ formOf signed pointed ⌝ }
+    ensures { λ r. ⌜ r ≡ formMark signed pointed ⌝ }
 {
     if pointed {
         if signed { 4 } else { 3 }
@@ -227,14 +224,14 @@ fn is_plain(form: u8) -> bool
 
 // Whether a G word is G90 or G91.
 fn is_reading_code(form: u8, code: u32) -> bool
-    ensures { λ r. ⌜ r ≡ (isPlain (wordIn form (pos 0)) && among (90 ∷ 91 ∷ []) code) ⌝ }
+    ensures { λ r. ⌜ r ≡ (isPlain (wordIn form (pos 0)) && isEntry measures code) ⌝ }
 {
     is_plain(form) & ((code == 90) | (code == 91))
 }
 
 // Whether a G code is that of a pattern.
 fn is_pattern_code(code: u32) -> bool
-    ensures { λ r. ⌜ r ≡ isPatternCode code ⌝ }
+    ensures { λ r. ⌜ r ≡ isEntry patternCodes code ⌝ }
 {
     match code {
         26 => true,
@@ -247,7 +244,7 @@ fn is_pattern_code(code: u32) -> bool
 }
 
 // What is said of the words of a block besides those that are kept by letter.
-pub struct Tally {
+pub struct Summary {
     // every word has its form
     pub formed: bool,
     // where the line ends, or its first word that has not its form starts
@@ -264,36 +261,36 @@ pub struct Tally {
     pub misplaced: bool,
 }
 
-// The tally with a G word: one of G90, G91, or a code.
-fn with_g(mut tally: Tally, form: u8, number: i32) -> Tally
-    ensures { λ r. ⌜ ((letters : List Word) → r ≡ retold tally (added (wordsFrom letters tally) letterG (wordIn form number))) ⌝ }
+// The summary with a G word: one of G90, G91, or a code.
+fn with_g(mut summary: Summary, form: u8, number: i32) -> Summary
+    ensures { λ r. ⌜ r ≡ withG summary (wordIn form number) ⌝ }
 {
     let code = size(number);
-    tally.begun = true;
+    summary.begun = true;
     if is_reading_code(form, code) {
-        tally.misplaced = tally.misplaced | tally.read;
-        tally.read = true;
-        tally.incremental = code == 91;
-        return tally;
+        summary.misplaced = summary.misplaced | summary.read;
+        summary.read = true;
+        summary.incremental = code == 91;
+        return summary;
     }
-    tally.misplaced = tally.misplaced | (tally.coded | !is_plain(form));
-    tally.coded = true;
-    tally.code = code;
-    tally
+    summary.misplaced = summary.misplaced | (summary.coded | !is_plain(form));
+    summary.coded = true;
+    summary.code = code;
+    summary
 }
 
-// The tally with N.
-fn with_number(mut tally: Tally) -> Tally
-    ensures { λ r. ⌜ r ≡ retold tally (withNumber (wordsFrom [] tally) noWord) ⌝ }
+// The summary with N.
+fn with_number(mut summary: Summary) -> Summary
+    ensures { λ r. ⌜ r ≡ withNumber summary ⌝ }
 {
-    tally.misplaced = tally.misplaced | tally.begun;
-    tally.begun = true;
-    tally
+    summary.misplaced = summary.misplaced | summary.begun;
+    summary.begun = true;
+    summary
 }
 
 // Whether a letter is an A that stands behind the G of a pattern.
 fn is_late(letter: u8, coded: bool, code: u32) -> bool
-    ensures { λ r. ⌜ r ≡ (eqb letter letterA && (coded && isPatternCode code)) ⌝ }
+    ensures { λ r. ⌜ r ≡ (eqb letter letterA && (coded && isEntry patternCodes code)) ⌝ }
 {
     if letter == b'A' {
         coded & is_pattern_code(code)
@@ -302,19 +299,19 @@ fn is_late(letter: u8, coded: bool, code: u32) -> bool
     }
 }
 
-// The tally with a letter other than G; before: it stands in the block already.
-fn with_letter(mut tally: Tally, letter: u8, before: bool) -> Tally
-    requires { ⌜ tally .others + 1 < 2 ^ 64 ⌝ }
-    ensures { λ r. ⌜ Tells tally letter before r ⌝ }
+// The summary with a letter other than G; before: it stands in the block already.
+fn with_letter(mut summary: Summary, letter: u8, before: bool) -> Summary
+    requires { ⌜ summary .others + 1 < 2 ^ 64 ⌝ }
+    ensures { λ r. ⌜ r ≡ withLetter summary letter before ⌝ }
 {
     if letter == b'N' {
-        return with_number(tally);
+        return with_number(summary);
     }
-    let late = is_late(letter, tally.coded, tally.code);
-    tally.misplaced = tally.misplaced | (before | late);
-    tally.begun = true;
-    tally.others = tally.others + 1;
-    tally
+    let late = is_late(letter, summary.coded, summary.code);
+    summary.misplaced = summary.misplaced | (before | late);
+    summary.begun = true;
+    summary.others = summary.others + 1;
+    summary
 }
 
 // The word with a form and a number; with 0 for its form it is absent.
@@ -331,11 +328,16 @@ pub fn word_in(form: u8, number: i32) -> Word
 
 // The words of the line that starts at a place, up to the first that has not its form. Those that are kept by letter are
 // written to two lists from A to Z: the form of each, 0 where there is none, and its number.
-pub fn read_words(text: &[u8], from: usize, forms: &mut [u8; 26], numbers: &mut [i32; 26]) -> Tally
+pub fn read_words(
+    text: &[u8],
+    from: usize,
+    forms: &mut [u8; 26],
+    numbers: &mut [i32; 26],
+) -> Summary
     requires { ⌜ (now forms ≡ replicate 26 0) × (now numbers ≡ replicate 26 (pos 0)) ⌝ }
     ensures { λ r. ⌜ Gathers (firstLine (drop from (now (text .entry)))) from r (now (forms .exit)) (now (numbers .exit)) ⌝ }
 {
-    let mut tally = Tally {
+    let mut summary = Summary {
         formed: true,
         end: from,
         others: 0,
@@ -350,18 +352,18 @@ pub fn read_words(text: &[u8], from: usize, forms: &mut [u8; 26], numbers: &mut 
     loop {
         let word = read_word(text, at);
         if word.form == 0 {
-            tally.formed = is_line_end(text, at);
-            tally.end = at;
-            return tally;
+            summary.formed = is_line_end(text, at);
+            summary.end = at;
+            return summary;
         }
         at = word.end;
         let letter = word.letter;
         if letter == b'G' {
-            tally = with_g(tally, word.form, word.number);
+            summary = with_g(summary, word.form, word.number);
             continue;
         }
         let index = (letter - b'A') as usize;
-        tally = with_letter(tally, letter, 0 < forms[index]);
+        summary = with_letter(summary, letter, 0 < forms[index]);
         let form = word.form;
         forms[index] = form;
         let number = word.number;

@@ -4,9 +4,6 @@ use borrow.Author.Needs.{needs}
 use Rattle.words.proofs.front_size.Statement.{statement}
 use Rattle.words.proofs.front_size.Tie as tie
 
-is-sign-requires : tie.Need-is-sign-requires
-is-sign-requires c κs = search needs
-
 returns : tie.Need-returns
 returns c = simp (sym (c .before .is-sign .ensures) ∙ c .if1 .taken)
 
@@ -14,4 +11,4 @@ returns-2 : tie.Need-returns-2
 returns-2 c = simp (sym (c .before .is-sign .ensures) ∙ c .if1 .left)
 
 pub front-size-spec : {M : Type 1} → statement M
-front-size-spec = tie.close (tie.spec is-sign-requires returns returns-2)
+front-size-spec = tie.close (tie.spec (search needs) returns returns-2)

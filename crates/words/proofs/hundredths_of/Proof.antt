@@ -5,21 +5,6 @@ use borrow.Author.Needs.{needs}
 use Rattle.words.proofs.hundredths_of.Statement.{statement}
 use Rattle.words.proofs.hundredths_of.Tie as tie
 
-mul-result : tie.Need-mul-result
-mul-result c = search needs
-
-mul-result-2 : tie.Need-mul-result-2
-mul-result-2 c = search needs
-
-add-result : tie.Need-add-result
-add-result c = search needs
-
-mul-result-3 : tie.Need-mul-result-3
-mul-result-3 c = search needs
-
-add-result-2 : tie.Need-add-result-2
-add-result-2 c = search needs
-
 returns : tie.Need-returns
 returns c = simp (eq-eqb (c .before .before .before .args .decimals .count) 1 (search needs))
 
@@ -29,4 +14,4 @@ returns-2 c = simp (ne-eqb (c .before .before .before .args .decimals .count) 1 
 pub hundredths-of-spec : {M : Type 1} → statement M
 hundredths-of-spec =
     tie.close
-    (tie.spec mul-result mul-result-2 add-result mul-result-3 add-result-2 returns returns-2)
+    (tie.spec (search needs) (search needs) (search needs) (search needs) (search needs) returns returns-2)

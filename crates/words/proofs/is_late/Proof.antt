@@ -5,9 +5,6 @@ use Rattle.aries.specs.Letters.{letterA}
 use Rattle.words.proofs.is_late.Statement.{statement}
 use Rattle.words.proofs.is_late.Tie as tie
 
-is-pattern-code-requires : tie.Need-is-pattern-code-requires
-is-pattern-code-requires c κs = search needs
-
 returns : tie.Need-returns
 returns c = simp (eq-eqb (c .before .before .args .letter) letterA (c .before .if1 .taken), c .is-pattern-code .ensures)
 
@@ -15,4 +12,4 @@ returns-2 : tie.Need-returns-2
 returns-2 c = simp (ne-eqb (c .before .args .letter) letterA (c .if1 .left))
 
 pub is-late-spec : {M : Type 1} → statement M
-is-late-spec = tie.close (tie.spec is-pattern-code-requires returns returns-2)
+is-late-spec = tie.close (tie.spec (search needs) returns returns-2)

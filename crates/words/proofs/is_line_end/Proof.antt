@@ -6,9 +6,6 @@ use Rattle.words.proofs.Line.{line-empty}
 use Rattle.words.proofs.is_line_end.Statement.{statement}
 use Rattle.words.proofs.is_line_end.Tie as tie
 
-shared-slice-read-result : tie.Need-shared-slice-read-result
-shared-slice-read-result c = search needs
-
 returns : tie.Need-returns
 returns c =
     let a = c .before .before .args in
@@ -18,4 +15,4 @@ returns-2 : tie.Need-returns-2
 returns-2 c = let a = c .before .args in rw (line-past (a .text .now) (a .at) (c .if1 .left))
 
 pub is-line-end-spec : {M : Type 1} → statement M
-is-line-end-spec = tie.close (tie.spec shared-slice-read-result returns returns-2)
+is-line-end-spec = tie.close (tie.spec (search needs) returns returns-2)

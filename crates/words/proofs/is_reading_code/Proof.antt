@@ -4,11 +4,8 @@ use borrow.Author.Needs.{needs}
 use Rattle.words.proofs.is_reading_code.Statement.{statement}
 use Rattle.words.proofs.is_reading_code.Tie as tie
 
-is-plain-requires : tie.Need-is-plain-requires
-is-plain-requires c κs = search needs
-
 returns : tie.Need-returns
 returns c = simp (c .is-plain .ensures, or-false)
 
 pub is-reading-code-spec : {M : Type 1} → statement M
-is-reading-code-spec = tie.close (tie.spec is-plain-requires returns)
+is-reading-code-spec = tie.close (tie.spec (search needs) returns)

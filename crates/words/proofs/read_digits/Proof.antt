@@ -44,15 +44,6 @@ module _ (c : tie.Else1 Inv-loop μ-loop) where
 loop-holds : tie.Need-loop-holds Inv-loop μ-loop
 loop-holds c = (omega arith, omega arith, lit< tt, simp (sub-zero, add-zero))
 
-add-byte-at : tie.Need-add-byte-at Inv-loop μ-loop
-add-byte-at c = search needs
-
-byte-at-requires : tie.Need-byte-at-requires Inv-loop μ-loop
-byte-at-requires c κs = search needs
-
-is-digit-requires : tie.Need-is-digit-requires Inv-loop μ-loop
-is-digit-requires c κs = search needs
-
 returns : tie.Need-returns Inv-loop μ-loop
 returns c =
     let b = c .before .before in
@@ -77,12 +68,6 @@ cast-value c = omega (arith, digit-high (byte c) (digit c))
 
 add-value : tie.Need-add-value Inv-loop μ-loop
 add-value c = omega (arith, room c, digit-high (byte c) (digit c))
-
-add-count : tie.Need-add-count Inv-loop μ-loop
-add-count c = search needs
-
-loop-less : tie.Need-loop-less Inv-loop μ-loop
-loop-less c = search needs
 
 loop-again : tie.Need-loop-again Inv-loop μ-loop
 loop-again c =
@@ -113,15 +98,12 @@ read-digits-spec =
     Inv-loop
     μ-loop
     loop-holds
-    add-byte-at
-    byte-at-requires
-    is-digit-requires
+    (search needs) (search needs) (search needs)
     returns
     mul-value
     sub-value
     cast-value
     add-value
-    add-count
-    loop-less
+    (search needs) (search needs)
     loop-again
     returns-2)

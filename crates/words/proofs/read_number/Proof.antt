@@ -9,7 +9,8 @@ use borrow.Author.Tests.{not-true, not-false, eq-eqb, ne-eqb, leb-true}
 use lib.Dec.{eqb, leb}
 use lib.ListN.{getD, drop, length-drop}
 use Rattle.aries.specs.Test.{within}
-use Rattle.aries.specs.Words.{digits, point}
+use Rattle.aries.specs.Text.{point}
+use Rattle.aries.specs.Words.{digits}
 use Rattle.signed.proofs.Tests.{and-right}
 use Rattle.words.specs.Reading.{Held, meant, numberOf, number}
 use Rattle.words.proofs.Bytes.{test-inside}
@@ -70,14 +71,8 @@ module _ (c : tie.After-read-digits2) where
 
 -- ---- the needs, in the order of the code
 
-read-digits-requires : tie.Need-read-digits-requires
-read-digits-requires c κs = search needs
-
 add-end : tie.Need-add-end
 add-end c = let d = c .before in omega (arith, few d .inside, length-drop (from d) (text d))
-
-byte-at-requires : tie.Need-byte-at-requires
-byte-at-requires c κs = search needs
 
 returns : tie.Need-returns
 returns c =
@@ -85,9 +80,6 @@ returns c =
     let d = b .before .before in
     let other : getD (text d) (past d) 0 ≡ point → ⊥ = λ p. c .if1 .taken (b .byte-at .ensures ∙ p) in
     rw (parts d) (simp (ne-eqb (getD (text d) (past d) 0) point other))
-
-no-number-requires : tie.Need-no-number-requires
-no-number-requires c κs = search needs
 
 returns-2 : tie.Need-returns-2
 returns-2 c =
@@ -99,9 +91,6 @@ add-read-digits c =
     let p = c .before .before .before in
     let d = first p in
     omega (arith, test-inside (λ (b : ℕ). eqb b point) (text d) (past d) refl (is-point p))
-
-read-digits-requires-2 : tie.Need-read-digits-requires-2
-read-digits-requires-2 c κs = search needs
 
 hundredths-of-requires : tie.Need-hundredths-of-requires
 hundredths-of-requires c κs =
@@ -125,14 +114,14 @@ pub read-number-spec : {M : Type 1} → statement M
 read-number-spec =
     tie.close
     (tie.spec
-    read-digits-requires
+    (search needs)
     add-end
-    byte-at-requires
+    (search needs)
     returns
-    no-number-requires
+    (search needs)
     returns-2
     add-read-digits
-    read-digits-requires-2
+    (search needs)
     hundredths-of-requires
     add-t12
     add-t13

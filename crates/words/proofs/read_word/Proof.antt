@@ -38,15 +38,6 @@ module _ (c : tie.After-front-size) where
   from-inside : at letter + c .front-size .result ≤ length (text letter)
   from-inside = front-inside (text letter) (at letter) (c .front-size .result) (capital letter) front-is
 
-byte-at-requires : tie.Need-byte-at-requires
-byte-at-requires c κs = search needs
-
-is-capital-requires : tie.Need-is-capital-requires
-is-capital-requires c κs = search needs
-
-no-reading-requires : tie.Need-no-reading-requires
-no-reading-requires c κs = search needs
-
 returns : tie.Need-returns
 returns c =
     let p = c .before .before in
@@ -59,17 +50,8 @@ returns c =
 add-byte-at : tie.Need-add-byte-at
 add-byte-at c = omega (arith, test-inside isCapital (text c) (at c) refl (capital c))
 
-byte-at-requires-2 : tie.Need-byte-at-requires-2
-byte-at-requires-2 c κs = search needs
-
-front-size-requires : tie.Need-front-size-requires
-front-size-requires c κs = search needs
-
 add-from : tie.Need-add-from
 add-from c = omega (arith, from-inside c)
-
-read-number-requires : tie.Need-read-number-requires
-read-number-requires c κs = search needs
 
 make-reading-requires : tie.Need-make-reading-requires
 make-reading-requires c κs =
@@ -97,14 +79,11 @@ pub read-word-spec : {M : Type 1} → statement M
 read-word-spec =
     tie.close
     (tie.spec
-    byte-at-requires
-    is-capital-requires
-    no-reading-requires
+    (search needs) (search needs) (search needs)
     returns
     add-byte-at
-    byte-at-requires-2
-    front-size-requires
+    (search needs) (search needs)
     add-from
-    read-number-requires
+    (search needs)
     make-reading-requires
     returns-2)

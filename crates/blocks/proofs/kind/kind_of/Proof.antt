@@ -1,6 +1,6 @@
 -- By the code, or else by the letters. Assumes nothing.
 use borrow.Author.Needs.{needs}
-use Rattle.aries.specs.Blocks.{kindOf}
+use Rattle.aries.specs.Forms.{kindOf}
 use Rattle.blocks.proofs.kind.kind_of.Statement.{statement}
 use Rattle.blocks.proofs.kind.kind_of.Tie as tie
 

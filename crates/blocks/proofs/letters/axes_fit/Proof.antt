@@ -5,16 +5,16 @@ use mathlib.Core.Logic.{⊎-elim}
 use native.Mathlib.Nat.{add-assoc, add-zero}
 use native.Mathlib.Omega.{arith}
 use borrow.Author.Needs.{needs}
-use Rattle.aries.specs.declared.word.Words.{Words}
-use Rattle.words.specs.Keeping.{wordsWith}
+use Rattle.words.specs.Keeping.{lettersOf}
 use Rattle.aries.specs.Text.{bytes}
-use Rattle.aries.specs.Blocks.{present}
+use Rattle.aries.specs.ByLetter.{Letters}
+use Rattle.blocks.specs.Counting.{present, countFits}
 use Rattle.blocks.proofs.letters.axes_fit.Statement.{statement}
 use Rattle.blocks.proofs.letters.axes_fit.Tie as tie
 
 -- the words that are at hand
-abbrev all-words : tie.Start → Words
-all-words s = wordsWith (s .args .forms .now) (s .args .numbers .now) (s .args .tally)
+abbrev all-words : tie.Start → Letters
+all-words s = lettersOf (s .args .forms .now) (s .args .numbers .now)
 
 -- T counts where it may stand
 free : (c : tie.Joined1) → c .if1 .may ≡ present (all-words (c .before .before .before)) (bytes (cond (c .before .before .before .args .tool) "T" ""))
@@ -25,7 +25,7 @@ add-result : tie.Need-add-result
 add-result c = ⊎-elim (λ u. omega arith) (λ u. omega arith) (c .before .if1 .came)
 
 returns : tie.Need-returns
-unfolding bytes
+unfolding bytes countFits
 returns c = simp (c .before .before .before .before .two .ensures .0, free (c .before .before), add-assoc, add-zero)
 
 pub axes-fit-spec : {M : Type 1} → statement M

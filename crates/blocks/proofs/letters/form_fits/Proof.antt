@@ -4,21 +4,22 @@ use mathlib.Core.Bool.{Bool}
 use mathlib.Core.List.{[], _∷_}
 use native.Mathlib.Nat.{add-assoc, add-left-comm, add-zero}
 use borrow.Author.Needs.{needs}
-use Rattle.words.specs.Keeping.{wordsWith}
+use Rattle.words.specs.Keeping.{lettersOf}
 use Rattle.aries.specs.declared.block.Kind.{Kind}
 use Rattle.aries.specs.declared.block.Kind.the-variants.{G26, G28, G29, G36, G37, G50, G70, G72, G75, G76, G93, Position, Lone, Unknown}
 use Rattle.aries.specs.Text.{bytes}
-use Rattle.aries.specs.Blocks.{lettersFit, formOf}
+use Rattle.aries.specs.Forms.{formOf}
+use Rattle.blocks.specs.Counting.{countFits}
 use Rattle.blocks.proofs.Arms.{alike}
 use Rattle.blocks.proofs.letters.form_fits.Statement.{statement}
 use Rattle.blocks.proofs.letters.form_fits.Tie as tie
 
 -- whether the letters at hand are those of a kind
 abbrev fits : tie.Start → Kind → Bool
-fits s k = lettersFit (wordsWith (s .args .forms .now) (s .args .numbers .now) (s .args .tally)) (formOf k)
+fits s k = countFits (lettersOf (s .args .forms .now) (s .args .numbers .now)) (s .args .summary .others) (formOf k)
 
 pub form-fits-spec : {M : Type 1} → statement M
-unfolding bytes
+unfolding bytes countFits
 form-fits-spec =
     tie.close
     (tie.spec

@@ -5,7 +5,7 @@ use mathlib.Core.List.{[], _∷_}
 use lib.Dec.{eqb}
 use lib.IntN.{natAbs}
 use borrow.Author.Needs.{needs}
-use Rattle.aries.specs.Words.{isPlain}
+use Rattle.aries.specs.ByLetter.{isPlain}
 use Rattle.blocks.proofs.Tests.{is-after}
 use Rattle.blocks.proofs.letters.is_m_code.Statement.{statement}
 use Rattle.blocks.proofs.letters.is_m_code.Tie as tie

@@ -2,17 +2,17 @@
 use mathlib.Core.Path.{refl}
 use mathlib.Core.List.{[], _∷_}
 use borrow.Author.Needs.{needs}
-use Rattle.aries.specs.declared.word.Words.{Words}
-use Rattle.words.specs.Keeping.{wordsOf}
+use Rattle.words.specs.Keeping.{lettersOf}
 use Rattle.aries.specs.declared.block.Kind.the-variants.{G26, G28, G29, G36, G37, G50, G70, G72, G75, G76, G92, G93, G98, Position, Lone, LetterB, LetterU, LetterV, LetterW}
-use Rattle.aries.specs.Blocks.{kindFits}
+use Rattle.aries.specs.ByLetter.{Letters}
+use Rattle.aries.specs.Forms.{kindFits}
 use Rattle.blocks.proofs.Arms.{alike}
 use Rattle.blocks.proofs.letters.kind_fits.Statement.{statement}
 use Rattle.blocks.proofs.letters.kind_fits.Tie as tie
 
 -- the words that are at hand
-abbrev all-words : tie.Start → Words
-all-words s = wordsOf (s .args .forms .now) (s .args .numbers .now)
+abbrev all-words : tie.Start → Letters
+all-words s = lettersOf (s .args .forms .now) (s .args .numbers .now)
 
 pub kind-fits-spec : {M : Type 1} → statement M
 kind-fits-spec =

@@ -1,7 +1,7 @@
 -- Three letters, one after the other. Assumes nothing.
 use borrow.Author.Needs.{needs}
-use Rattle.aries.specs.Blocks.{numberFits, commonRanges}
-use Rattle.words.specs.Keeping.{wordsOf}
+use Rattle.aries.specs.Numbers.{numberFits, commonRanges}
+use Rattle.words.specs.Keeping.{lettersOf}
 use Rattle.blocks.proofs.Tests.{pass-all}
 use Rattle.blocks.proofs.numbers.common_fit.Statement.{statement}
 use Rattle.blocks.proofs.numbers.common_fit.Tie as tie
@@ -12,7 +12,7 @@ returns c =
     let n = t .before .before in
     let a = n .before .before .args in
     simp (n .whole .ensures, n .before .word-at .ensures, t .whole2 .ensures, t .before .word-at2 .ensures, c .whole3 .ensures, c .before .word-at3 .ensures)
-    (pass-all (numberFits (wordsOf (a .forms .now) (a .numbers .now))) commonRanges)
+    (pass-all (numberFits (lettersOf (a .forms .now) (a .numbers .now))) commonRanges)
 
 pub common-fit-spec : {M : Type 1} → statement M
 common-fit-spec =

@@ -1,6 +1,6 @@
 -- The kind's own letters and the common ones. Assumes nothing.
 use borrow.Author.Needs.{needs}
-use Rattle.aries.specs.Blocks.{isRanged}
+use Rattle.aries.specs.Numbers.{isRanged}
 use Rattle.blocks.proofs.numbers.is_ranged.Statement.{statement}
 use Rattle.blocks.proofs.numbers.is_ranged.Tie as tie
 

@@ -3,18 +3,19 @@ use mathlib.Core.Path.{_≡_, refl}
 use mathlib.Core.Bool.{true}
 use Prim.Native.Nat.{ℕ, _≤_}
 use borrow.Author.Needs.{needs}
-use Rattle.aries.specs.declared.word.Words.{Words}
-use Rattle.words.specs.Keeping.{wordsOf}
+use Rattle.words.specs.Keeping.{lettersOf}
 use Rattle.aries.specs.declared.block.Kind.{Kind}
 use Rattle.aries.specs.Letters.{letterA, letterB, letterK, letterP, letterQ, letterT, letterU, letterV, letterW}
-use Rattle.aries.specs.Blocks.{rangesOf, count, blockOf}
+use Rattle.aries.specs.ByLetter.{Letters}
+use Rattle.aries.specs.Numbers.{rangesOf}
+use Rattle.aries.specs.Blocks.{count, blockOf}
 use Rattle.blocks.proofs.Bounds.{limits, own-limit, common-limit}
 use Rattle.blocks.proofs.request.block_of.Statement.{statement}
 use Rattle.blocks.proofs.request.block_of.Tie as tie
 
 -- the words that are at hand
-abbrev all-words : tie.Start → Words
-all-words s = wordsOf (s .args .forms .now) (s .args .numbers .now)
+abbrev all-words : tie.Start → Letters
+all-words s = lettersOf (s .args .forms .now) (s .args .numbers .now)
 
 module _ (s : tie.Start) where
   -- a number that the kind limits, and two of them
@@ -61,11 +62,11 @@ block-of-spec =
     (search needs) (search needs) (λ c κs. rw (c .word-at7 .ensures) (own (c .before .before .before) (c .before .enum-told20 .given .1) letterW 255 refl))
     (search needs)
     -- what each kind answers
-    (λ c. simp (c .before .before .enum-told .given .1, c .run-of .ensures, c .before .circle-of .ensures))
-    (λ c. simp (c .before .before .enum-told2 .given .1, c .run-of2 .ensures, c .before .line-of .ensures))
-    (λ c. simp (c .before .before .enum-told3 .given .1, c .run-of3 .ensures, c .before .arc-of .ensures))
-    (λ c. simp (c .before .before .enum-told4 .given .1, c .run-of4 .ensures, c .before .grid-of .ensures))
-    (λ c. simp (c .before .before .enum-told5 .given .1, c .run-of5 .ensures, c .before .grid-of2 .ensures))
+    (λ c. simp (c .before .before .enum-told .given .1, c .pattern-block .ensures, c .before .circle-of .ensures))
+    (λ c. simp (c .before .before .enum-told2 .given .1, c .pattern-block2 .ensures, c .before .line-of .ensures))
+    (λ c. simp (c .before .before .enum-told3 .given .1, c .pattern-block3 .ensures, c .before .arc-of .ensures))
+    (λ c. simp (c .before .before .enum-told4 .given .1, c .pattern-block4 .ensures, c .before .grid-of .ensures))
+    (λ c. simp (c .before .before .enum-told5 .given .1, c .pattern-block5 .ensures, c .before .grid-of2 .ensures))
     (λ c. simp (c .enum-told6 .given .1))
     (λ c. simp (c .before .before .before .enum-told7 .given .1, c .before .before .axes-of .ensures, c .small .ensures, c .before .word-at .ensures))
     (λ c. simp (c .before .enum-told8 .given .1, c .axes-of2 .ensures))
