@@ -1,5 +1,6 @@
 ghost use mathlib.Core.Path.{_≡_};
 ghost use Prim.Native.Nat.{_-_, _≤_};
+ghost use lib.ListN.{length};
 ghost use Rattle.aries.specs.Macros.{noMacros, storing, characters, foundIn};
 
 // The stored bodies, by macro number: where each starts and ends in the text without spaces, and the line of its
@@ -31,17 +32,7 @@ impl Macros {
     pub fn find(self, number: u8) -> Found
         ensures { λ r. ⌜ r ≡ foundIn self number ⌝ }
     {
-        let n = number as usize;
-        if 90 <= n {
-            return Found::Nothing;
-        }
-        let line = self.line[n];
-        if line == 0 {
-            return Found::Nothing;
-        }
-        let start = self.start[n];
-        let end = self.end[n];
-        Found::Body(start as usize, end as usize, line)
+        find_in(&self.start, &self.end, &self.line, number)
     }
 
     // With the body of a macro in place of its old one.
@@ -70,6 +61,34 @@ impl Macros {
         }
         total
     }
+}
+
+// The body of a macro, from the lists of a store that are lent: whoever looks often spares a copy of the store.
+pub fn find_in<'a>(
+    start: &'a [u16; 90],
+    end: &'a [u16; 90],
+    line: &'a [u16; 90],
+    number: u8,
+) -> Found
+    requires { ⌜ length (now line) ≡ 90 ⌝ }
+    ensures { λ r. ⌜ r ≡ foundIn (record { start = now (start .entry); end = now (end .entry); line = now (line .entry) }) number ⌝ }
+{
+    let n = number as usize;
+    if 90 <= n {
+        return Found::Nothing;
+    }
+    let first = line[n];
+    if first == 0 {
+        return Found::Nothing;
+    }
+    Found::Body(index(start[n]), index(end[n]), first)
+}
+
+// A place of the text, as it is kept, as an index.
+fn index(place: u16) -> usize
+    ensures { λ r. ⌜ r ≡ place ⌝ }
+{
+    place as usize
 }
 
 // The characters of a body from one place to another.

@@ -157,7 +157,7 @@ impl State {
         ensures { λ r. ⌜ r ≡ measuring self m ⌝ }
     {
         match m {
-            Measure::Kept => self,
+            Measure::Unchanged => self,
             Measure::Absolute => {
                 self.incremental = false;
                 self

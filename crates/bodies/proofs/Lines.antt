@@ -1,55 +1,34 @@
 -- The lines of a body, stretch by stretch: what direct blocks one after another make, and then what follows the block that
 -- they end at.
-use mathlib.Core.Path.{_≡_, refl, sym, ap, ap₂, _∙_, fun-ext}
+use mathlib.Core.Path.{_≡_, refl, sym, ap, _∙_, fun-ext}
 use mathlib.Core.Bool.{Bool, true, false}
-use mathlib.Core.List.{List, [], _∷_, _++_, append-assoc}
+use mathlib.Core.List.{List, [], _∷_}
 use Prim.Native.Nat.{ℕ, zero, suc, _+_, _<_, _≤_}
 use native.Mathlib.Omega.{arith}
 use borrow.Author.Tests.{ltb-true, ltb-false}
 use lib.Dec.{ltb}
-use lib.ListN.{length, getD, drop, take, replicate, length-drop}
-use lib.Seq.{length-take-le, drop-drop, getD-drop}
+use lib.ListN.{length, getD, drop}
 use Rattle.aries.specs.declared.block.Block.{Block}
 use Rattle.aries.specs.declared.block.Block.the-variants as Block
-use Rattle.aries.specs.declared.job.Job.{Job}
 use Rattle.aries.specs.declared.state.Frame.{Frame}
-use Rattle.aries.specs.declared.state.Status.{Status}
-use Rattle.aries.specs.declared.state.Status.the-variants.{Passed, Refused}
 use Rattle.aries.specs.declared.state.Progress.{Progress}
 use Rattle.aries.specs.Outcome.{Out, done, refused, _>>=_}
-use Rattle.aries.specs.Hits.{Hit, Made, noHit, adding, andThen}
+use Rattle.aries.specs.Hits.{Made, adding, andThen}
 use Rattle.aries.specs.Judging.{Judging}
 use Rattle.aries.specs.Macros.{Calls, carryDirect, carry, Begun, begin, runBlock, runLine, runLines}
-use Rattle.aries.specs.Runs.{Lent, Ran}
 use Rattle.aries.specs.Text.{lines, lineFeed}
 use Rattle.aries.proofs.Outcomes.{adding-then}
 use Rattle.aries.proofs.Runs.{no-hit-then}
-use Rattle.text.specs.Lines.{lineLength, blanks}
-use Rattle.text.proofs.Lines.{line-ends, feed-after, lines-at, lines-past, lines-blanks}
+use Rattle.text.specs.Lines.{lineLength}
+use Rattle.text.proofs.Lines.{line-ends, lines-at, lines-past}
 use Rattle.stretches.specs.declared.Stop.{Stop}
 use Rattle.stretches.specs.declared.Stop.the-variants as Stop
 use Rattle.stretches.specs.Stretches.{Stretched, stepOf, blockStep, begunStep, lineStep, onward, stretch}
 use Rattle.stretches.proofs.Stops.{first-line}
-use Rattle.bodies.specs.declared.Opening.{Opening}
-use Rattle.bodies.specs.Opening.{Opens}
 use Rattle.bodies.specs.Rest.{rest}
 
 module _ (j : Judging) (c : Calls) (f : Frame) where
   -- ---- From line to line
-
-  -- blank lines count, and do nothing
-  blank-lines : (n line : ℕ) (ls : List (List ℕ)) (g : Progress) → runLines j c f line (replicate n [] ++ ls) g ≡ runLines j c f (line + n) ls g
-  unfolding runLines
-  blank-lines zero line ls g = let e : line ≡ line + 0 = omega arith in ap (λ (k : ℕ). runLines j c f k ls g) e
-  blank-lines (suc n) line ls g =
-      let e : suc line + n ≡ line + suc n = omega arith in
-      no-hit-then g (runLines j c f (suc line) (replicate n [] ++ ls))
-      ∙ blank-lines n (suc line) ls g
-      ∙ ap (λ (k : ℕ). runLines j c f k ls g) e
-
-  -- past the empty lines at the front of a body
-  pub lines-skip : (t : List ℕ) (line : ℕ) (g : Progress) → runLines j c f line (lines t) g ≡ runLines j c f (line + blanks t) (lines (drop (blanks t) t)) g
-  lines-skip t line g = ap (λ (ls : List (List ℕ)). runLines j c f line ls g) (lines-blanks t) ∙ blank-lines (blanks t) line (lines (drop (blanks t) t)) g
 
   -- the end of a line is a place between lines: what is left of the line there is blank
   past-line :
@@ -114,12 +93,3 @@ module _ (j : Judging) (c : Calls) (f : Frame) where
     -- from a place on
     pub lines-stretched : (at line : ℕ) (g : Progress) → runLines j c f line (lines (drop at t)) g ≡ all (stretch j f at line (lines (drop at t)) g)
     lines-stretched at line g = lines-all (lines (drop at t)) at line g refl
-
--- a body from its first block on
-pub body-opened :
-    (j : Judging) (c : Calls) (f : Frame) (t : List ℕ) (first : ℕ) (o : Opening) (g : Progress) → Opens t first o
-    → runLines j c f (o .line) (lines (drop (o .at) t)) g ≡ runLines j c f first (lines t) g
-body-opened j c f t first o g e =
-    ap (λ (k : ℕ). runLines j c f k (lines (drop (o .at) t)) g) (e .counted)
-    ∙ ap (λ (k : ℕ). runLines j c f (first + k) (lines (drop k t)) g) (e .past)
-    ∙ sym (lines-skip j c f t first g)

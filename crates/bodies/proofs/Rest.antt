@@ -68,16 +68,16 @@ module _
   made = stretch judging f at line (lines (drop at t)) g
 
   -- nothing follows: it was all
-  pub lines-over : isEnd (r .stop) ≡ true → Ran hitsMade (f .job) (r .status) (r .progress) before after (g .hits) whole
+  pub lines-over : isEnd (r .stop) ≡ true → Ran hitsMade (f .job) (r .outcome .status) (r .outcome .progress) before after (g .hits) whole
   lines-over e =
-      subst (Ran hitsMade (f .job) (r .status) (r .progress) before after (g .hits))
+      subst (Ran hitsMade (f .job) (r .outcome .status) (r .outcome .progress) before after (g .hits))
       (sym (then-no-hit (made .made)) ∙ ap (λ (s : Stop). andThen (made .made) (rest judging c f t s)) (sym (is-end (r .stop) e) ∙ st .stopped) ∙ sym (lines-stretched judging c f t at line g))
       (st .ran)
 
   -- something follows: whoever carries that out has carried out all
-  pub lines-left : isEnd (r .stop) ≡ false → Leads hitsMade (f .job) after (r .progress .hits) (rest judging c f t (r .stop) (r .progress)) before (g .hits) whole
+  pub lines-left : isEnd (r .stop) ≡ false → Leads hitsMade (f .job) after (r .outcome .progress .hits) (rest judging c f t (r .stop) (r .outcome .progress)) before (g .hits) whole
   lines-left e =
-      leads-as (ap (λ (s : Stop). rest judging c f t s (r .progress)) (sym (st .stopped)))
+      leads-as (ap (λ (s : Stop). rest judging c f t s (r .outcome .progress)) (sym (st .stopped)))
       (leads-on (made .made) (rest judging c f t (made .stop))
       (passed-as (stretch-passes judging f (lines (drop at t)) at line g (st .ran .same-status) (sym (ap isEnd (st .stopped)) ∙ e)) (st .ran))
       (leads-as (lines-stretched judging c f t at line g) (leads-start refl)))

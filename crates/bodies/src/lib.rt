@@ -1,12 +1,14 @@
 // Bodies: the blocks of a body, and the calls among them.
 use aries::macros::Found;
 use aries::macros::Macros;
+use aries::macros::find_in;
 use aries::refusal;
 use aries::state::Frame;
 use aries::state::Outcome;
 use aries::state::Progress;
 use aries::state::Status;
 use stretches::Stop;
+use stretches::look_ahead;
 use stretches::run_stretch;
 ghost use mathlib.Core.Path.{_≡_};
 ghost use mathlib.Core.Bool.{cond};
@@ -16,7 +18,6 @@ ghost use Rattle.aries.specs.Macros.{bodiesOf, call, runLines};
 ghost use Rattle.aries.specs.Runs.{lent, Carried};
 ghost use Rattle.aries.specs.Text.{lines};
 ghost use Rattle.stretches.specs.Stretches.{LinesFit};
-ghost use Rattle.bodies.specs.Opening.{Opens};
 ghost use Rattle.bodies.specs.Rest.{rest, RestFits};
 
 // The most calls that are open at a time.
@@ -31,17 +32,6 @@ pub struct Opening {
     pub line: u64,
 }
 
-// Where the first block starts in a body whose first line has a number.
-pub fn first_block(body: &[u8], first: u16) -> Opening
-    ensures { λ r. ⌜ Opens (now (body .entry)) first r ⌝ }
-{
-    let at = text::next_block(body, 0);
-    Opening {
-        at,
-        line: (first as u64) + (at as u64),
-    }
-}
-
 // A place, or the limit where it lies past that.
 pub fn clip(place: usize, limit: usize) -> usize
     ensures { λ r. ⌜ r ≡ cond (ltb limit place) limit place ⌝ }
@@ -49,8 +39,8 @@ pub fn clip(place: usize, limit: usize) -> usize
     if limit < place { limit } else { place }
 }
 
-// The block runner: the blocks of a body from a place on, up to the first refusal, with so many calls left to open. Direct
-// blocks are carried out as a stretch.
+// The blocks of a body from a place on, up to the first refusal, with so many calls left to open: direct blocks are carried
+// out as a stretch, and what follows them goes to the block runner.
 pub fn run_blocks(
     depth: u8,
     list: &mut [i32],
@@ -64,10 +54,13 @@ pub fn run_blocks(
     requires { ⌜ LinesFit (from .line) (from .at) (now body) ⌝ }
     ensures { λ r. ⌜ Carried r frame (lent (now (list .entry))) (lent (now (list .exit))) progress (λ j. runLines j (call j (bodiesOf (now (text .entry)) macros) depth) frame (from .line) (lines (drop (from .at) (now (body .entry))))) ⌝ }
 {
-    let stretch = run_stretch(list, body, from.at, from.line, frame, progress);
+    let at = from.at;
+    let line = from.line;
+    let start = look_ahead(body, at, line);
+    let stretch = run_stretch(list, body, at, line, start, frame, progress);
     let stop = stretch.stop;
     if stop.is_end() {
-        return stretch.outcome();
+        return stretch.outcome;
     }
     run_rest(
         depth,
@@ -77,12 +70,12 @@ pub fn run_blocks(
         stop,
         macros,
         frame,
-        stretch.progress,
+        stretch.outcome.progress,
     )
 }
 
-// What follows a stretch in a body: a call goes to the body runner, and the next stretch begins behind it; any other block
-// is out of place.
+// The block runner: what follows a stretch in a body, from the block that it ended at on. A call goes to the body runner,
+// and the next stretch begins behind it; any other block is out of place.
 pub fn run_rest(
     depth: u8,
     list: &mut [i32],
@@ -112,9 +105,11 @@ pub fn run_rest(
                 if let Status::Refused(_, _) = ended {
                     return outcome;
                 }
-                let stretch = run_stretch(list, body, end, place, frame, outcome.progress);
-                let status = stretch.status;
-                now = stretch.progress;
+                let next = look_ahead(body, end, place);
+                let stretch = run_stretch(list, body, end, place, next, frame, outcome.progress);
+                let ran = stretch.outcome;
+                let status = ran.status;
+                now = stretch.outcome.progress;
                 stop = stretch.stop;
                 if let Status::Refused(number, line) = status {
                     return Outcome::refused(number, line, now);
@@ -124,8 +119,8 @@ pub fn run_rest(
     }
 }
 
-// The body runner: a call of a macro in a line, with so many calls left to open, this one among them. The body is handed to
-// the block runner as a part of the text.
+// The body runner: a call of a macro in a line, with so many calls left to open, this one among them. The body is a part of
+// the text; its first direct blocks are carried out here, and what follows them goes to the block runner with the store.
 pub fn run_body(
     depth: u8,
     list: &mut [i32],
@@ -138,24 +133,31 @@ pub fn run_body(
 ) -> Outcome
     ensures { λ r. ⌜ Carried r frame (lent (now (list .entry))) (lent (now (list .exit))) progress (λ j. call j (bodiesOf (now (text .entry)) macros) depth frame number line) ⌝ }
 {
-    let found = macros.find(number);
-    let Found::Body(start, end, first) = found else {
+    let found = find_in(&macros.start, &macros.end, &macros.line, number);
+    let Found::Body(begin, end, first) = found else {
         return Outcome::refused(refusal::NOT_STORED, line, progress);
     };
     if depth == 0 {
         return Outcome::refused(refusal::TOO_DEEP, line, progress);
     }
     let to = clip(end, text.len());
-    let from = clip(start, to);
-    let opening = first_block(&text[from..to], first);
-    run_blocks(
+    let from = clip(begin, to);
+    let body = &text[from..to];
+    let number = first as u64;
+    let start = look_ahead(body, 0, number);
+    let stretch = run_stretch(list, body, 0, number, start, frame, progress);
+    let stop = stretch.stop;
+    if stop.is_end() {
+        return stretch.outcome;
+    }
+    run_rest(
         depth - 1,
         list,
         text,
-        &text[from..to],
-        opening,
+        body,
+        stop,
         macros,
         frame,
-        progress,
+        stretch.outcome.progress,
     )
 }

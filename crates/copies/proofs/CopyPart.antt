@@ -1,8 +1,7 @@
--- Laws of `copyPart`: one for each way through a G75 or G76 block, and the part from its first block on.
-use mathlib.Core.Path.{_≡_, sym, fun-ext, _∙_}
+-- Laws of `copyPart`: one for each way through a G75 or G76 block, and the part without a block.
+use mathlib.Core.Path.{_≡_, ap, fun-ext, _∙_}
 use mathlib.Core.List.{List}
-use Prim.Native.Nat.{ℕ, _-_, _≤_}
-use lib.ListN.{length}
+use Prim.Native.Nat.{ℕ, _-_}
 use Rattle.aries.specs.declared.block.Copies.{Copies}
 use Rattle.aries.specs.declared.block.Layout.{Layout}
 use Rattle.aries.specs.declared.macros.Found.the-variants.{Body, Nothing}
@@ -11,15 +10,21 @@ use Rattle.aries.specs.declared.setup.Setup.{Setup}
 use Rattle.aries.specs.declared.setup.Sheet.the-variants.{Plain, LaidOut}
 use Rattle.aries.specs.declared.state.Progress.{Progress}
 use Rattle.aries.specs.Outcome.{refused}
+use Rattle.aries.specs.Hits.{andThen}
 use Rattle.aries.specs.Judging.{Judging}
 use Rattle.aries.specs.Layouts.{partOf, copyPart}
-use Rattle.aries.specs.Macros.{Bodies, foundIn, part, bodiesOf, call, mostCalls, runLines, runBody}
+use Rattle.aries.specs.Macros.{Bodies, foundIn, part, bodiesOf, call, mostCalls, runBody}
 use Rattle.aries.specs.Setup.{ordinaryFrame}
-use Rattle.text.proofs.Lines.{lines-past}
-use Rattle.bodies.specs.declared.Opening.{Opening}
-use Rattle.bodies.specs.Opening.{Opens}
-use Rattle.bodies.proofs.Lines.{body-opened}
-use Rattle.copies.specs.Copying.{bodyOf, openedPart, blankPart, allCopies}
+use Rattle.aries.proofs.Runs.{no-hit-then}
+use Rattle.stretches.specs.declared.Ahead.the-variants as Ahead
+use Rattle.stretches.specs.declared.Stop.the-variants as Stop
+use Rattle.stretches.specs.Lookahead.{ahead}
+use Rattle.stretches.specs.Stretches.{Stretched}
+use Rattle.stretches.proofs.Lookahead.{ahead-nothing}
+use Rattle.stretches.proofs.Stretches.{stretch-skip, stretch-end}
+use Rattle.bodies.specs.Rest.{rest}
+use Rattle.bodies.proofs.Lines.{lines-stretched}
+use Rattle.copies.specs.Copying.{bodyOf, blankPart, allCopies}
 
 -- ---- The ways through a block
 
@@ -40,13 +45,13 @@ module _ (j : Judging) (text : List ℕ) (m : Macros) (s : Setup) (line : ℕ) (
 
 -- ---- The part
 
-module _ (j : Judging) (bodies : Bodies) (first : ℕ) (body : List ℕ) (o : Opening) (opens : Opens body first o) where
-  -- from its first block on
-  pub part-opened : partOf j bodies (bodyOf first body) ≡ openedPart j bodies o body
-  unfolding runBody
-  part-opened = fun-ext (λ f. fun-ext (λ g. sym (body-opened j (call j bodies (mostCalls - 1)) f body first o g opens)))
-
-  -- without a block
-  pub part-blank : length body ≤ o .at → partOf j bodies (bodyOf first body) ≡ blankPart
-  unfolding runLines
-  part-blank h = part-opened ∙ fun-ext (λ f. fun-ext (λ g. rw (lines-past body (o .at) h)))
+-- without a block
+pub part-blank : (j : Judging) (bodies : Bodies) (first : ℕ) (body : List ℕ) → ahead body 0 first ≡ Ahead.Nothing → partOf j bodies (bodyOf first body) ≡ blankPart
+unfolding runBody
+part-blank j bodies first body h =
+    let calls = call j bodies (mostCalls - 1) in
+    fun-ext
+    (λ f. fun-ext
+    (λ g. lines-stretched j calls f body 0 first g
+    ∙ ap (λ (s : Stretched). andThen (s .made) (rest j calls f body (s .stop))) (stretch-skip j f body 0 first g ∙ stretch-end j f body _ _ g (ahead-nothing body 0 first h))
+    ∙ no-hit-then g (rest j calls f body Stop.End)))

@@ -1,7 +1,6 @@
 -- A part and its copies, as the code goes about them.
 use mathlib.Core.List.{List}
-use Prim.Native.Nat.{ℕ, _-_}
-use lib.ListN.{drop}
+use Prim.Native.Nat.{ℕ}
 use Rattle.aries.specs.declared.block.Copies.{Copies}
 use Rattle.aries.specs.declared.block.Layout.{Layout}
 use Rattle.aries.specs.declared.state.Frame.{Frame}
@@ -9,18 +8,12 @@ use Rattle.aries.specs.declared.state.Progress.{Progress}
 use Rattle.aries.specs.Outcome.{Out}
 use Rattle.aries.specs.Hits.{Made, noHit}
 use Rattle.aries.specs.Judging.{Judging}
-use Rattle.aries.specs.Macros.{Body, Bodies, call, mostCalls, runLines}
-use Rattle.aries.specs.Text.{lines}
+use Rattle.aries.specs.Macros.{Body}
 use Rattle.aries.specs.Layouts.{Part, copyCount, copyPlace, copyAll}
-use Rattle.bodies.specs.declared.Opening.{Opening}
 
 -- bytes as a body, with the number of the first line
 abbrev pub bodyOf : ℕ → List ℕ → Body
 bodyOf first bytes = record { line = first; bytes = bytes }
-
--- a body from its first block on, as the part that is copied, with one call open
-abbrev pub openedPart : Judging → Bodies → Opening → List ℕ → Part
-openedPart j bodies o body f g = runLines j (call j bodies (mostCalls - 1)) f (o .line) (lines (drop (o .at) body)) g
 
 -- a part without a block
 abbrev pub blankPart : Part

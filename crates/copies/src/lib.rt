@@ -14,8 +14,9 @@ use aries::state::Outcome;
 use aries::state::Progress;
 use aries::state::State;
 use aries::state::Status;
-use bodies::Opening;
 use lanes::Cursor;
+use stretches::Ahead;
+use stretches::look_ahead;
 use stretches::run_stretch;
 ghost use mathlib.Core.Path.{_≡_};
 ghost use Rattle.aries.specs.Layouts.{copyStart, partOf, copy, copyPart};
@@ -23,8 +24,9 @@ ghost use Rattle.aries.specs.Macros.{bodiesOf};
 ghost use Rattle.aries.specs.WidePoints.{pointOf};
 ghost use Rattle.aries.specs.Runs.{Lent, lent, Carried};
 ghost use Rattle.aries.specs.Setup.{ordinaryFrame};
+ghost use Rattle.stretches.specs.Lookahead.{ahead};
 ghost use Rattle.stretches.specs.Stretches.{LinesFit};
-ghost use Rattle.copies.specs.Copying.{openedPart, blankPart, bodyOf, allCopies};
+ghost use Rattle.copies.specs.Copying.{blankPart, bodyOf, allCopies};
 
 // The state that a copy begins with: the one found, at the copy's own place, and no pattern origin waits.
 fn copy_start(found: State, place: Point) -> State
@@ -51,33 +53,47 @@ fn copy_blank(
     Outcome::passed(progress.with_state(copy_start(found, point)))
 }
 
-// One copy: its place is judged, and then the part is carried out there with the state found. The macro store is handed on
-// only where a stretch of direct blocks is not all.
+// One copy, after so many blocks and hits: its place is judged, and then the part is carried out there with the state found.
+// The macro store is handed on only where a stretch of direct blocks is not all.
 fn copy_at(
     list: &mut [i32],
     text: &[u8],
     body: &[u8],
-    opening: Opening,
+    first: u64,
+    start: Ahead,
     macros: Macros,
     frame: Frame,
     line: u64,
     found: State,
     place: WidePoint,
-    progress: Progress,
+    blocks: u32,
+    hits: usize,
 ) -> Outcome
-    requires { ⌜ LinesFit (opening .line) (opening .at) (now body) ⌝ }
-    ensures { λ r. ⌜ Carried r frame (lent (now (list .entry))) (lent (now (list .exit))) progress (λ j. copy j (openedPart j (bodiesOf (now (text .entry)) macros) opening (now (body .entry))) frame line found (pointOf place)) ⌝ }
+    requires { ⌜ (LinesFit first 0 (now body)) × (start ≡ ahead (now body) 0 first) ⌝ }
+    ensures { λ r. ⌜ Carried r frame (lent (now (list .entry))) (lent (now (list .exit))) (record { state = found; blocks = blocks; hits = hits }) (λ j. copy j (partOf j (bodiesOf (now (text .entry)) macros) (bodyOf first (now (body .entry)))) frame line found (pointOf place)) ⌝ }
 {
     let located = place.located();
     let Located::At(point) = located else {
-        return Outcome::refused(refusal::TOO_FAR, line, progress);
+        return Outcome::refused(
+            refusal::TOO_FAR,
+            line,
+            Progress {
+                state: found,
+                blocks,
+                hits,
+            },
+        );
     };
     let here = frame.at(point);
-    let begun = progress.with_state(copy_start(found, point));
-    let stretch = run_stretch(list, body, opening.at, opening.line, here, begun);
+    let begun = Progress {
+        state: copy_start(found, point),
+        blocks,
+        hits,
+    };
+    let stretch = run_stretch(list, body, 0, first, start, here, begun);
     let stop = stretch.stop;
     if stop.is_end() {
-        return stretch.outcome();
+        return stretch.outcome;
     }
     bodies::run_rest(
         bodies::FURTHER_CALLS,
@@ -87,16 +103,51 @@ fn copy_at(
         stop,
         macros,
         here,
-        stretch.progress,
+        stretch.outcome.progress,
     )
 }
 
-// Copies a part, place after place up to the first refusal, each from the body's first block on.
+// The copy after those that have left a progress: it begins with the state that was saved before them, and goes on from their
+// counts.
+fn copy_next(
+    list: &mut [i32],
+    text: &[u8],
+    body: &[u8],
+    first: u64,
+    start: Ahead,
+    macros: Macros,
+    frame: Frame,
+    line: u64,
+    saved: State,
+    place: WidePoint,
+    before: Progress,
+) -> Outcome
+    requires { ⌜ (LinesFit first 0 (now body)) × (start ≡ ahead (now body) 0 first) ⌝ }
+    ensures { λ r. ⌜ Carried r frame (lent (now (list .entry))) (lent (now (list .exit))) before (λ j. copy j (partOf j (bodiesOf (now (text .entry)) macros) (bodyOf first (now (body .entry)))) frame line saved (pointOf place)) ⌝ }
+{
+    copy_at(
+        list,
+        text,
+        body,
+        first,
+        start,
+        macros,
+        frame,
+        line,
+        saved,
+        place,
+        before.blocks,
+        before.hits,
+    )
+}
+
+// Copies a part, place after place up to the first refusal. Its first block has been decoded already.
 fn copy_body(
     list: &mut [i32],
     text: &[u8],
     body: &[u8],
-    opening: Opening,
+    first: u64,
+    start: Ahead,
     macros: Macros,
     frame: Frame,
     line: u64,
@@ -104,8 +155,8 @@ fn copy_body(
     copies: Copies,
     progress: Progress,
 ) -> Outcome
-    requires { ⌜ LinesFit (opening .line) (opening .at) (now body) ⌝ }
-    ensures { λ r. ⌜ Carried r frame (lent (now (list .entry))) (lent (now (list .exit))) progress (λ j. allCopies j (openedPart j (bodiesOf (now (text .entry)) macros) opening (now (body .entry))) frame line layout copies) ⌝ }
+    requires { ⌜ (LinesFit first 0 (now body)) × (start ≡ ahead (now body) 0 first) ⌝ }
+    ensures { λ r. ⌜ Carried r frame (lent (now (list .entry))) (lent (now (list .exit))) progress (λ j. allCopies j (partOf j (bodiesOf (now (text .entry)) macros) (bodyOf first (now (body .entry)))) frame line layout copies) ⌝ }
 {
     let origin = frame.origin;
     let found = progress.state;
@@ -116,11 +167,12 @@ fn copy_body(
     let mut m = 0;
     while m < count {
         let place = placing::copy_place(origin, layout, copies, cursor);
-        let outcome = copy_at(
+        let outcome = copy_next(
             list,
             text,
             body,
-            opening,
+            first,
+            start,
             macros,
             frame,
             line,
@@ -139,7 +191,7 @@ fn copy_body(
     Outcome::passed(now)
 }
 
-// Copies the part with a body over the layout in force. Its first block is looked for once.
+// Copies the part with a body over the layout in force. Its first block is looked for and decoded once.
 fn copy_over(
     list: &mut [i32],
     text: &[u8],
@@ -154,23 +206,24 @@ fn copy_over(
 ) -> Outcome
     ensures { λ r. ⌜ Carried r frame (lent (now (list .entry))) (lent (now (list .exit))) progress (λ j. allCopies j (partOf j (bodiesOf (now (text .entry)) macros) (bodyOf first (now (body .entry)))) frame line layout copies) ⌝ }
 {
-    let opening = bodies::first_block(body, first);
-    if opening.at < body.len() {
-        copy_body(
-            list,
-            text,
-            body,
-            opening,
-            macros,
-            frame,
-            line,
-            layout,
-            copies,
-            progress,
-        )
-    } else {
-        copy_blank(frame, line, layout, copies, progress)
+    let number = first as u64;
+    let start = look_ahead(body, 0, number);
+    if let Ahead::Nothing = start {
+        return copy_blank(frame, line, layout, copies, progress);
     }
+    copy_body(
+        list,
+        text,
+        body,
+        number,
+        start,
+        macros,
+        frame,
+        line,
+        layout,
+        copies,
+        progress,
+    )
 }
 
 // A G75 or G76 block: the part has to be stored and a layout in force, and then the copies are made.

@@ -15,6 +15,7 @@ use aries::state::Progress;
 use aries::state::Status;
 use storing::open_body;
 use stretches::Stop;
+use stretches::look_ahead;
 use stretches::run_stretch;
 ghost use Prim.Native.Nat.{_≤_, _<_, _+_};
 ghost use lib.ListN.{length};
@@ -94,9 +95,11 @@ fn run_on(
     requires { ⌜ InText (now text) at line ⌝ }
     ensures { λ r. ⌜ Turns r (now (text .entry)) at line Running setup progress (lent (now (list .entry))) (lent (now (list .exit))) ⌝ }
 {
-    let stretch = run_stretch(list, text, at, line, setup.frame(), progress);
-    let left = stretch.progress;
-    let status = stretch.status;
+    let start = look_ahead(text, at, line);
+    let stretch = run_stretch(list, text, at, line, start, setup.frame(), progress);
+    let outcome = stretch.outcome;
+    let left = outcome.progress;
+    let status = outcome.status;
     if let Status::Refused(number, place) = status {
         return Turn::running(setup, left, Next::Refused(number, place));
     }

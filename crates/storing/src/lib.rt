@@ -9,6 +9,7 @@ use aries::setup::Sheet;
 use aries::state::Outcome;
 use aries::state::Progress;
 use aries::state::Status;
+use bodies::Opening;
 ghost use mathlib.Core.Path.{_≡_};
 ghost use Prim.Native.Nat.{_≤_, _<_};
 ghost use lib.ListN.{length, drop};
@@ -104,7 +105,10 @@ fn first_run(
     if !runs_first(number, sheet) {
         return Outcome::passed(progress);
     }
-    let opening = bodies::first_block(body, first);
+    let opening = Opening {
+        at: 0,
+        line: first as u64,
+    };
     bodies::run_blocks(
         bodies::FURTHER_CALLS,
         list,

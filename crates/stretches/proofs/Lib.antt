@@ -1,3 +1,5 @@
+pub mod Lookahead
+pub mod Plain
 pub mod Stretches
 pub mod Turns
 pub mod Stops

@@ -17,7 +17,7 @@ use Rattle.aries.specs.Outcome.{Out, done, refused}
 use Rattle.aries.specs.Hits.{Made, noHit, adding, andThen}
 use Rattle.aries.specs.Judging.{Judging, limits}
 use Rattle.aries.specs.Macros.{begin}
-use Rattle.aries.specs.Runs.{statusOf, Lent, Ran, hitsMade}
+use Rattle.aries.specs.Runs.{Lent, Ran, hitsMade}
 use Rattle.aries.specs.Text.{lines, lineFeed}
 use Rattle.aries.proofs.Runs.{ran-refused, ran-no-hit, passed-done, Leads, leads-start, leads-as, leads-on}
 use Rattle.text.specs.Lines.{lineLength, blanks, lineAt, lineEnd}
@@ -25,7 +25,7 @@ use Rattle.text.proofs.Lines.{line-short, line-goes-on, line-ends, feed-after, 
 use Rattle.stretches.specs.declared.Stop.{Stop}
 use Rattle.stretches.specs.declared.Stop.the-variants as Stop
 use Rattle.stretches.specs.declared.Stretch.{Stretch}
-use Rattle.stretches.specs.Stretches.{Stretched, refusedAt, endingWith, Step, stepOf, begunStep, lineStep, onward, stretch, Stretches}
+use Rattle.stretches.specs.Stretches.{Stretched, refusedAt, endingWith, stepOf, begunStep, lineStep, onward, stretch, Stretches}
 
 -- ---- One step, and what follows
 
@@ -137,18 +137,14 @@ module _ {job : Job} {l₀ : Lent} {k₀ : ℕ} {whole : Stretched} where
 
   -- on to the next block
   pub lead-skip :
-      {l : Lent} {k : ℕ} (j : Judging) (f : Frame) (t : List ℕ) (at line next : ℕ) (g : Progress) → next ≡ at + blanks (drop at t)
+      {l : Lent} {k : ℕ} (j : Judging) (f : Frame) (t : List ℕ) (at line next number : ℕ) (g : Progress) → next ≡ at + blanks (drop at t) → number ≡ line + blanks (drop at t)
       → StretchLeads job l k (stretch j f at line (lines (drop at t)) g) l₀ k₀ whole
-      → StretchLeads job l k (stretch j f next (line + (next - at)) (lines (drop next t)) g) l₀ k₀ whole
-  lead-skip j f t at line next g e lead =
-      let b : next - at ≡ blanks (drop at t) = omega arith in
-      rw b (rw e (lead-as (stretch-skip j f t at line g) lead))
+      → StretchLeads job l k (stretch j f next number (lines (drop next t)) g) l₀ k₀ whole
+  lead-skip j f t at line next number g e n lead = rw (e, n) (lead-as (stretch-skip j f t at line g) lead)
 
-  -- at the start all is left, from the first block on
-  pub lead-start :
-      (j : Judging) (f : Frame) (t : List ℕ) (at line next : ℕ) (g : Progress) → next ≡ at + blanks (drop at t)
-      → stretch j f at line (lines (drop at t)) g ≡ whole → StretchLeads job l₀ k₀ (stretch j f next (line + (next - at)) (lines (drop next t)) g) l₀ k₀ whole
-  lead-start j f t at line next g e w = lead-skip j f t at line next g e (record { leads = leads-start (ap (λ (s : Stretched). s .made) w); stop = ap (λ (s : Stretched). s .stop) w })
+  -- at the start all is left
+  pub lead-start : {all : Stretched} → all ≡ whole → StretchLeads job l₀ k₀ all l₀ k₀ whole
+  lead-start w = record { leads = leads-start (ap (λ (s : Stretched). s .made) w); stop = ap (λ (s : Stretched). s .stop) w }
 
   -- a direct block that passed
   pub lead-on :
@@ -168,7 +164,7 @@ module _ (r : Stretch) (f : Frame) (before : Lent) (g : Progress) (what : Judgin
 
   -- a refusal ends it
   pub stretch-refused :
-      {l after : Lent} {k number line : ℕ} {left : Progress} {rest : Stretched} → r ≡ record { status = Refused number line; progress = left; stop = Stop.End }
+      {l after : Lent} {k number line : ℕ} {left : Progress} {rest : Stretched} → r ≡ record { outcome = record { status = Refused number line; progress = left }; stop = Stop.End }
       → rest ≡ refusedAt number line → StretchLeads (f .job) l k rest before (g .hits) whole → Stretches r f before after g what
   stretch-refused {after = after} {number = number} {line} {left} e s lead =
       let lead' = rw s at lead in
@@ -176,7 +172,7 @@ module _ (r : Stretch) (f : Frame) (before : Lent) (g : Progress) (what : Judgin
 
   -- so does the end of the text, or a block that is not direct
   pub stretch-ended :
-      {l : Lent} {now : Progress} {stop : Stop} {rest : Stretched} → r ≡ record { status = Passed; progress = now; stop = stop }
+      {l : Lent} {now : Progress} {stop : Stop} {rest : Stretched} → r ≡ record { outcome = record { status = Passed; progress = now }; stop = stop }
       → rest ≡ endingWith now stop → StretchLeads (f .job) l (now .hits) rest before (g .hits) whole → Stretches r f before l g what
   stretch-ended {l} {now} e s lead =
       let lead' = rw s at lead in

@@ -1,23 +1,26 @@
 -- What a stretch comes to at a block, by what decoding the line answers.
 use mathlib.Core.Path.{_≡_, refl, sym, ap, _∙_}
 use mathlib.Core.Bool.{Bool, true, false, not, _&&_, _||_}
-use mathlib.Core.List.{List}
+use mathlib.Core.List.{List, [], _∷_}
 use Prim.Native.Nat.{ℕ, _+_, _<_}
 use native.Mathlib.Omega.{arith}
 use borrow.Author.Tests.{leb-true, leb-false, lt-ltb, le-ltb}
 use lib.Dec.{eqb, leb, ltb}
-use lib.ListN.{length, getD, drop, take}
+use lib.ListN.{length, getD, drop}
 use lib.Seq.{getD-take, getD-drop}
+use types.Run.{OneOf, miss}
+use denote.Enum.Declared.{tagOf}
+use Rattle.aries.proofs.block.Block.{the-type}
+use Rattle.aries.specs.declared.block.Outside.the-variants as Outside
 use Rattle.aries.specs.declared.block.Block.{Block}
 use Rattle.aries.specs.declared.block.Block.the-variants as Block
 use Rattle.aries.specs.declared.block.Decoded.the-variants as Decoded
 use Rattle.aries.specs.declared.block.Direct.{Direct}
 use Rattle.aries.specs.declared.block.Instruction.{Instruction}
-use Rattle.aries.specs.declared.block.Outside.{Outside}
 use Rattle.aries.specs.declared.job.Job.{Job}
 use Rattle.aries.specs.declared.state.Frame.{Frame}
 use Rattle.aries.specs.declared.state.Progress.{Progress}
-use Rattle.aries.specs.Outcome.{Out, done, refused, passes}
+use Rattle.aries.specs.Outcome.{Out, done, refused}
 use Rattle.aries.specs.Judging.{Judging, limits}
 use Rattle.aries.specs.Letters.{letterV}
 use Rattle.aries.specs.Blocks.{decode}
@@ -27,10 +30,13 @@ use Rattle.text.specs.Lines.{lineLength, lineAt, lineEnd}
 use Rattle.text.proofs.Lines.{line-goes-on}
 use Rattle.decode.specs.Decoding.{decodedAt}
 use Rattle.decode.proofs.Decoding.{decoded-instruction, decoded-refused}
-use Rattle.stretches.specs.declared.Stop.the-variants as Stop
-use Rattle.stretches.specs.Stretches.{Stretched, refusedAt, endingWith, stepOf, blockStep, begunStep, onward, stretch}
+use Rattle.stretches.specs.Stretches.{Stretched, refusedAt, endingWith, stepOf, stopAt, blockStep, begunStep, onward, stretch}
 use Rattle.aries.proofs.Calls.{begin-spent, begin-refused, begin-done}
 use Rattle.stretches.proofs.Stretches.{stretch-block}
+
+-- the tags of blocks that are not direct, whatever they hold
+abbrev indirectTags : List ℕ
+indirectTags = tagOf the-type (Block.Call 0) ∷ tagOf the-type (Block.Outside Outside.End) ∷ []
 
 -- the code's test for one block too many
 spent : (counted : Bool) (blocks : ℕ) → counted && leb 100000 blocks ≡ true → not counted || ltb blocks 100000 ≡ false
@@ -89,11 +95,14 @@ module _ (job : Job) (f : Frame) (t : List ℕ) (at line : ℕ) (g : Progress) (
           → here ≡ onward (stepOf (carryDirect (limits job) f line d begins)) (stretch (limits job) f end line (lines (drop end t)))
       turn-direct d q = found (Block.Direct d) q
 
-      pub turn-call : (n : ℕ) → i .block ≡ Block.Call n → here ≡ endingWith begins (Stop.Call n end line)
-      turn-call n q = found (Block.Call n) q
-
-      pub turn-outside : (o : Outside) → i .block ≡ Block.Outside o → here ≡ endingWith begins (Stop.Outside o end line)
-      turn-outside o q = found (Block.Outside o) q
+      -- a block that is not direct
+      pub turn-stop : OneOf indirectTags (tagOf the-type (i .block)) → here ≡ endingWith begins (stopAt (i .block) end line)
+      turn-stop q = found (i .block) refl ∙ go (i .block) q
+        where
+          go : (b : Block) → OneOf indirectTags (tagOf the-type b) → onward (blockStep (limits job) f end line b begins) (stretch (limits job) f end line (lines (drop end t))) ≡ endingWith begins (stopAt b end line)
+          go (Block.Direct d) q = absurd (miss indirectTags (tagOf the-type (Block.Direct d)) tt q)
+          go (Block.Call n) q = refl
+          go (Block.Outside o) q = refl
 
     -- it counts only where it may
     pub counted-room : counted ≡ true → g .blocks < 100000

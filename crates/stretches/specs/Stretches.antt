@@ -40,6 +40,12 @@ abbrev pub stepOf : Out (Made Progress) → Step
 stepOf (done m) = goes m
 stepOf (refused number line) = ends (refusedAt number line)
 
+-- why it ends at a block, in a line that ends at a place; at a direct one it does not
+abbrev pub stopAt : Block → ℕ → ℕ → Stop
+stopAt (Block.Direct d) end line = Stop.End
+stopAt (Block.Call n) end line = Stop.Call n end line
+stopAt (Block.Outside o) end line = Stop.Outside o end line
+
 -- a block that has begun, in a line that ends at a place
 abbrev pub blockStep : Judging → Frame → ℕ → ℕ → Block → Progress → Step
 blockStep j f end line (Block.Direct d) g = stepOf (carryDirect j f line d g)
@@ -77,5 +83,5 @@ LinesFit first from t = first + (length t - from) < 18446744073709551616
 
 -- A stretch that was carried out, against the definition: what it made, and why it ended.
 pub record Stretches (r : Stretch) (f : Frame) (before after : Lent) (g : Progress) (what : Judging → Progress → Stretched) : Type 0 where
-  pub ran : Ran hitsMade (f .job) (r .status) (r .progress) before after (g .hits) (what (limits (f .job)) g .made)
+  pub ran : Ran hitsMade (f .job) (r .outcome .status) (r .outcome .progress) before after (g .hits) (what (limits (f .job)) g .made)
   pub stopped : r .stop ≡ what (limits (f .job)) g .stop

@@ -2,17 +2,76 @@ use aries::block::Direct;
 use aries::state::Frame;
 use aries::state::Outcome;
 use aries::state::Progress;
+use aries::state::State;
+ghost use mathlib.Core.Path.{_≡_};
+ghost use mathlib.Core.Bool.{true, false};
 ghost use Rattle.aries.specs.Macros.{carryDirect};
 ghost use Rattle.aries.specs.Runs.{lent, Carried};
+ghost use Rattle.stretches.specs.Plain.{isPattern, keeping};
 
-// A direct block that has been decoded and counted.
-pub fn carry_direct(
+// Whether a block runs a pattern, new or recalled.
+pub fn is_pattern(block: Direct) -> bool
+    ensures { λ r. ⌜ r ≡ isPattern block ⌝ }
+{
+    match block {
+        Direct::RunPattern(_, _, _) => true,
+        Direct::Recall(_) => true,
+        _ => false,
+    }
+}
+
+// A block that runs a pattern and has been decoded and counted.
+pub fn carry_pattern(
     list: &mut [i32],
     frame: Frame,
     line: u64,
     block: Direct,
     progress: Progress,
 ) -> Outcome
+    requires { ⌜ isPattern block ≡ true ⌝ }
+    ensures { λ r. ⌜ Carried r frame (lent (now (list .entry))) (lent (now (list .exit))) progress (λ j. carryDirect j frame line block) ⌝ }
+{
+    match block {
+        Direct::RunPattern(pattern, tool, memory) => {
+            patterns::runs::run_pattern(list, frame, line, pattern, tool, memory, progress)
+        }
+        Direct::Recall(n) => patterns::runs::recall(list, frame, line, n, progress),
+        _ => Outcome::passed(progress),
+    }
+}
+
+// A progress with the pattern memories of the one before.
+fn keeping(before: Progress, left: Progress) -> Progress
+    ensures { λ r. ⌜ r ≡ keeping before left ⌝ }
+{
+    let kept = before.state;
+    let memories = kept.memories;
+    let state = left.state;
+    let current = state.current;
+    let waiting = state.waiting;
+    Progress {
+        state: State {
+            memories,
+            current,
+            waiting,
+            incremental: state.incremental,
+            nibble: state.nibble,
+            tool: state.tool,
+        },
+        blocks: left.blocks,
+        hits: left.hits,
+    }
+}
+
+// What any other direct block leaves.
+fn plain_outcome(
+    list: &mut [i32],
+    frame: Frame,
+    line: u64,
+    block: Direct,
+    progress: Progress,
+) -> Outcome
+    requires { ⌜ isPattern block ≡ false ⌝ }
     ensures { λ r. ⌜ Carried r frame (lent (now (list .entry))) (lent (now (list .exit))) progress (λ j. carryDirect j frame line block) ⌝ }
 {
     match block {
@@ -23,10 +82,6 @@ pub fn carry_direct(
         Direct::PatternOrigin(axes) => {
             press::moves::set_pattern_origin(frame, line, axes, progress)
         }
-        Direct::Run(pattern, tool, memory) => {
-            patterns::runs::run_pattern(list, frame, line, pattern, tool, memory, progress)
-        }
-        Direct::Recall(n) => patterns::runs::recall(list, frame, line, n, progress),
         Direct::Lone => {
             let state = progress.state;
             Outcome::passed(progress.with_state(state.dropping()))
@@ -35,6 +90,26 @@ pub fn carry_direct(
             let state = progress.state;
             Outcome::passed(progress.with_state(state.in_mode(on)))
         }
-        Direct::Idle => Outcome::passed(progress),
+        _ => Outcome::passed(progress),
+    }
+}
+
+// Any other direct block that has been decoded and counted. It leaves the pattern memories as they are, and saying so spares
+// copying them, most of the bytes of a state.
+pub fn carry_plain(
+    list: &mut [i32],
+    frame: Frame,
+    line: u64,
+    block: Direct,
+    progress: Progress,
+) -> Outcome
+    requires { ⌜ isPattern block ≡ false ⌝ }
+    ensures { λ r. ⌜ Carried r frame (lent (now (list .entry))) (lent (now (list .exit))) progress (λ j. carryDirect j frame line block) ⌝ }
+{
+    let outcome = plain_outcome(list, frame, line, block, progress);
+    let status = outcome.status;
+    Outcome {
+        status,
+        progress: keeping(progress, outcome.progress),
     }
 }

@@ -1,5 +1,7 @@
 // Direct blocks one after another, in a body and outside bodies.
-use crate::direct::carry_direct;
+use crate::direct::carry_pattern;
+use crate::direct::carry_plain;
+use crate::direct::is_pattern;
 use aries::block::Block;
 use aries::block::Decoded;
 use aries::block::Outside;
@@ -14,7 +16,8 @@ ghost use Rattle.aries.specs.declared.state.Status.the-variants.{Passed, Refuse
 ghost use Rattle.aries.specs.Runs.{lent};
 ghost use Rattle.aries.specs.Text.{lines};
 ghost use Rattle.stretches.specs.declared.Stop.the-variants.{End};
-ghost use Rattle.stretches.specs.Stretches.{stretch, isEnd, LinesFit, Stretches};
+ghost use Rattle.stretches.specs.Lookahead.{ahead};
+ghost use Rattle.stretches.specs.Stretches.{stretch, stopAt, isEnd, LinesFit, Stretches};
 
 pub mod direct; // one direct block
 
@@ -33,6 +36,17 @@ pub enum Stop {
 }
 
 impl Stop {
+    // At a block that is not direct, in a line that ends at a place and has a number.
+    fn at(block: Block, end: usize, line: u64) -> Stop
+        ensures { λ r. ⌜ r ≡ stopAt block end line ⌝ }
+    {
+        match block {
+            Block::Direct(_) => Stop::End,
+            Block::Call(number) => Stop::Call(number, end, line),
+            Block::Outside(outside) => Stop::Outside(outside, end, line),
+        }
+    }
+
     // Whether nothing follows.
     pub fn is_end(self) -> bool
         ensures { λ r. ⌜ r ≡ isEnd self ⌝ }
@@ -47,94 +61,116 @@ impl Stop {
 
 // What a stretch leaves. The block that it ended at has begun. After a refusal the progress is of no account.
 pub struct Stretch {
-    pub status: Status,
-    pub progress: Progress,
+    pub outcome: Outcome,
     pub stop: Stop,
 }
 
 impl Stretch {
-    // What it leaves where nothing follows.
-    pub fn outcome(self) -> Outcome
-        ensures { λ r. ⌜ r ≡ record { status = self .status; progress = self .progress } ⌝ }
-    {
-        let status = self.status;
-        let progress = self.progress;
-        Outcome { status, progress }
-    }
-
     // All went well up to the end.
     fn passed(progress: Progress, stop: Stop) -> Stretch
-        ensures { λ r. ⌜ r ≡ record { status = Passed; progress = progress; stop = stop } ⌝ }
+        ensures { λ r. ⌜ r ≡ record { outcome = record { status = Passed; progress = progress }; stop = stop } ⌝ }
     {
         Stretch {
-            status: Status::Passed,
-            progress,
+            outcome: Outcome {
+                status: Status::Passed,
+                progress,
+            },
             stop,
         }
     }
 
     // A refusal, at a line.
     fn refused(number: u8, line: u64, progress: Progress) -> Stretch
-        ensures { λ r. ⌜ r ≡ record { status = Refused number line; progress = progress; stop = End } ⌝ }
+        ensures { λ r. ⌜ r ≡ record { outcome = record { status = Refused number line; progress = progress }; stop = End } ⌝ }
     {
         Stretch {
-            status: Status::Refused(number, line),
-            progress,
+            outcome: Outcome {
+                status: Status::Refused(number, line),
+                progress,
+            },
             stop: Stop::End,
         }
     }
 }
 
-// The direct blocks from a place of the text on, where the line has a number: up to a refusal, a block that is not direct or
-// the end of the text.
+// What a place between two lines leads to: past the line feeds there, the place of a block, the number of its line and what
+// the line comes to; or nothing.
+pub enum Ahead {
+    Nothing,
+    Block(usize, u64, Decoded),
+}
+
+// Looks for the next block from a place of the text on, where the line has a number, and decodes it.
+pub fn look_ahead(text: &[u8], from: usize, first: u64) -> Ahead
+    requires { ⌜ LinesFit first from (now text) ⌝ }
+    ensures { λ r. ⌜ r ≡ ahead (now (text .entry)) from first ⌝ }
+{
+    let at = text::next_block(text, from);
+    if text.len() <= at {
+        return Ahead::Nothing;
+    }
+    Ahead::Block(at, first + ((at - from) as u64), decode::decode(text, at))
+}
+
+// The direct blocks from a place of the text on, where the line has a number, the first of them decoded already: up to a
+// refusal, a block that is not direct or the end of the text.
 pub fn run_stretch(
     list: &mut [i32],
     text: &[u8],
     from: usize,
     first: u64,
+    start: Ahead,
     frame: Frame,
     progress: Progress,
 ) -> Stretch
     requires { ⌜ LinesFit first from (now text) ⌝ }
+    requires { ⌜ start ≡ ahead (now text) from first ⌝ }
     ensures { λ r. ⌜ Stretches r frame (lent (now (list .entry))) (lent (now (list .exit))) progress (λ j. stretch j frame from first (lines (drop from (now (text .entry))))) ⌝ }
 {
     let mut now = progress;
-    let mut at = text::next_block(text, from);
-    let mut line = first + ((at - from) as u64);
-    while at < text.len() {
-        let counted = text[at] != LETTER_V;
+    // what is ahead, and the place and line from which it was looked for
+    let mut at = from;
+    let mut line = first;
+    let mut next = start;
+    loop {
+        let Ahead::Block(place, number, decoded) = next else {
+            return Stretch::passed(now, Stop::End);
+        };
+        let counted = text[place] != LETTER_V;
         if counted & (MOST_BLOCKS <= now.blocks) {
-            return Stretch::refused(refusal::BLOCKS_SPENT, line, now);
+            return Stretch::refused(refusal::BLOCKS_SPENT, number, now);
         }
-        let decoded = decode::decode(text, at);
         match decoded {
-            Decoded::Refused(number) => {
-                return Stretch::refused(number, line, now);
+            Decoded::Refused(refusal) => {
+                return Stretch::refused(refusal, number, now);
             }
             Decoded::Instruction(instruction, end) => {
                 let measure = instruction.measure;
                 let block = instruction.block;
                 let begun = now.begun(counted, measure);
-                match block {
-                    Block::Direct(direct) => {
-                        let outcome = carry_direct(list, frame, line, direct, begun);
-                        let status = outcome.status;
-                        now = outcome.progress;
-                        if let Status::Refused(number, place) = status {
-                            return Stretch::refused(number, place, now);
-                        }
-                        at = text::next_block(text, end);
-                        line += (at - end) as u64;
+                let Block::Direct(direct) = block else {
+                    return Stretch::passed(begun, Stop::at(block, end, number));
+                };
+                // apart, so that what a plain block leaves is not put down as a whole
+                if is_pattern(direct) {
+                    let outcome = carry_pattern(list, frame, number, direct, begun);
+                    let status = outcome.status;
+                    now = outcome.progress;
+                    if let Status::Refused(refusal, place) = status {
+                        return Stretch::refused(refusal, place, now);
                     }
-                    Block::Call(number) => {
-                        return Stretch::passed(begun, Stop::Call(number, end, line));
-                    }
-                    Block::Outside(outside) => {
-                        return Stretch::passed(begun, Stop::Outside(outside, end, line));
+                } else {
+                    let outcome = carry_plain(list, frame, number, direct, begun);
+                    let status = outcome.status;
+                    now = outcome.progress;
+                    if let Status::Refused(refusal, place) = status {
+                        return Stretch::refused(refusal, place, now);
                     }
                 }
+                at = end;
+                line = number;
+                next = look_ahead(text, at, line);
             }
         }
     }
-    Stretch::passed(now, Stop::End)
 }

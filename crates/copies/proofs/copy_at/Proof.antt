@@ -1,7 +1,6 @@
 -- By what 15 makes of the place, and by what follows the direct blocks at the front of the part.
 use borrow.Author.Needs.{needs}
 use mathlib.Core.Path.{_≡_, sym, ap, _∙_}
-use mathlib.Core.Bool.{true}
 use Prim.Native.Nat.{_-_}
 use Rattle.aries.specs.declared.state.Frame.{Frame}
 use Rattle.aries.specs.declared.state.Outcome.{Outcome}
@@ -9,8 +8,8 @@ use Rattle.aries.specs.declared.state.Progress.{Progress}
 use Rattle.aries.specs.Outcome.{Out}
 use Rattle.aries.specs.Hits.{Made}
 use Rattle.aries.specs.Judging.{Judging, limits, near}
-use Rattle.aries.specs.Layouts.{Part, copyStart, copy}
-use Rattle.aries.specs.Macros.{bodiesOf, Calls, call, mostCalls}
+use Rattle.aries.specs.Layouts.{Part, copyStart, partOf, copy}
+use Rattle.aries.specs.Macros.{bodiesOf, Calls, call, mostCalls, runBody}
 use Rattle.aries.specs.Moves.{withState}
 use Rattle.aries.specs.WidePoints.{pointOf}
 use Rattle.aries.specs.Runs.{Lent, lent, Carried}
@@ -18,14 +17,18 @@ use Rattle.aries.specs.Setup.{frameAt}
 use Rattle.aries.proofs.Carried.{carried-refused}
 use Rattle.bodies.proofs.Rest.{lines-over, lines-left, left-fits}
 use Rattle.aries.proofs.WidePoints.{at-passed, far-failed}
-use Rattle.copies.specs.Copying.{openedPart}
+use Rattle.copies.specs.Copying.{bodyOf}
 use Rattle.copies.proofs.CopyAll.{copy-far, copy-carried}
 use Rattle.copies.proofs.copy_at.Statement.{statement}
 use Rattle.copies.proofs.copy_at.Tie as tie
 
 -- the part, and its copy
 abbrev parts : tie.Start → Judging → Part
-parts s j = openedPart j (bodiesOf (s .args .text .now) (s .args .macros)) (s .args .opening) (s .args .body .now)
+parts s j = partOf j (bodiesOf (s .args .text .now) (s .args .macros)) (bodyOf (s .args .first) (s .args .body .now))
+
+-- the state found, with the counts
+abbrev counts : tie.Start → Progress
+counts s = record { state = s .args .found; blocks = s .args .blocks; hits = s .args .hits }
 
 abbrev copied : tie.Start → Judging → Progress → Out (Made Progress)
 copied s j = copy j (parts s j) (s .args .frame) (s .args .line) (s .args .found) (pointOf (s .args .place))
@@ -37,58 +40,60 @@ returns c =
     let p = pointOf (s .args .place) in
     let far = far-failed (near p) p (sym (d .located .ensures) ∙ c .before .enum-told .given .1) in
     carried-refused (s .args .frame) (copied s) (c .refused .ensures)
-    (copy-far (s .args .frame .job) (parts s (limits (s .args .frame .job))) (s .args .frame) (s .args .line) (s .args .found) p (s .args .progress) far)
+    (copy-far (s .args .frame .job) (parts s (limits (s .args .frame .job))) (s .args .frame) (s .args .line) (s .args .found) p (counts s) far)
 
 -- the place is judged, and the stretch at the front of the part is carried out there
 module _ (e : tie.After-is-end) where
   abbrev stretched : tie.After-run-stretch
   stretched = e .before .before
 
-  abbrev begins : tie.After-with-state
+  abbrev begins : tie.After-copy-start
   begins = stretched .before .before
 
   abbrev judged : tie.After-located2
-  judged = begins .before .before .before .before
+  judged = begins .before .before .before
 
   abbrev entry : tie.Start
   entry = judged .before .before .before .before .before
 
   abbrev here : Frame
-  here = begins .before .before .at .result
+  here = begins .before .at .result
 
   abbrev begun : Progress
-  begun = begins .with-state .result
+  begun = withState (counts entry) (begins .copy-start .result)
 
   abbrev calls : Calls
   calls = call (limits (here .job)) (bodiesOf (entry .args .text .now) (entry .args .macros)) (mostCalls - 1)
 
   -- the part carried out here is the copy
-  is-copy : {r : Outcome} {after : Lent} → Carried r here (lent (entry .args .list .now)) after begun (λ j. parts entry j here) → Carried r (entry .args .frame) (lent (entry .args .list .now)) after (entry .args .progress) (copied entry)
+  is-copy : {r : Outcome} {after : Lent} → Carried r here (lent (entry .args .list .now)) after begun (λ j. parts entry j here) → Carried r (entry .args .frame) (lent (entry .args .list .now)) after (counts entry) (copied entry)
   is-copy h =
       let p = pointOf (entry .args .place) in
       let q = at-passed (near p) p (sym (judged .before .before .located .ensures) ∙ judged .located2 .given .1) in
-      copy-carried (parts entry) (entry .args .frame) (entry .args .line) (entry .args .found) p (entry .args .progress) here begun (q .0)
-      (begins .before .before .at .ensures ∙ ap (frameAt (entry .args .frame)) (q .1))
-      (begins .with-state .ensures ∙ ap (withState (entry .args .progress)) (begins .before .copy-start .ensures ∙ ap (copyStart (entry .args .found)) (q .1)))
+      copy-carried (parts entry) (entry .args .frame) (entry .args .line) (entry .args .found) p (counts entry) here begun (q .0)
+      (begins .before .at .ensures ∙ ap (frameAt (entry .args .frame)) (q .1))
+      (ap (withState (counts entry)) (begins .copy-start .ensures ∙ ap (copyStart (entry .args .found)) (q .1)))
       h
 
 returns-2 : tie.Need-returns-2
+unfolding runBody
 returns-2 c =
     let e = c .before .before in
     let a = entry e .args in
-    rw (c .outcome .ensures) (is-copy e (lines-over (calls e) (a .body .now) (a .opening .at) (a .opening .line) (stretched e .run-stretch .ensures) (sym (e .is-end .ensures) ∙ c .before .if1 .taken)))
+    is-copy e (lines-over (calls e) (a .body .now) 0 (a .first) (stretched e .run-stretch .ensures) (sym (e .is-end .ensures) ∙ c .before .if1 .taken))
 
 run-rest-requires : tie.Need-run-rest-requires
 run-rest-requires c κs =
     let e = c .before .before in
     let a = entry e .args in
-    left-fits (calls e) (a .body .now) (a .opening .at) (a .opening .line) (stretched e .run-stretch .ensures) (entry e .pre)
+    left-fits (calls e) (a .body .now) 0 (a .first) (stretched e .run-stretch .ensures) (entry e .pre .0)
 
 returns-3 : tie.Need-returns-3
+unfolding runBody
 returns-3 c =
     let e = c .before .before .before .before in
     let a = entry e .args in
-    is-copy e (lines-left (calls e) (a .body .now) (a .opening .at) (a .opening .line) (stretched e .run-stretch .ensures) (sym (e .is-end .ensures) ∙ c .before .before .before .if1 .left) _ _ _ (c .before .run-rest .ensures))
+    is-copy e (lines-left (calls e) (a .body .now) 0 (a .first) (stretched e .run-stretch .ensures) (sym (e .is-end .ensures) ∙ c .before .before .before .if1 .left) _ _ _ (c .before .run-rest .ensures))
 
 pub copy-at-spec : {M : Type 1} → statement M
 copy-at-spec =
@@ -99,8 +104,6 @@ copy-at-spec =
     (λ c. search needs)
     (λ c κs. search needs)
     returns
-    (λ c κs. search needs)
-    (λ c κs. search needs)
     (λ c κs. search needs)
     (λ c κs. search needs)
     (λ c κs. search needs)

@@ -1,5 +1,4 @@
 -- The invariant: the cursor is that of copy m, and whoever makes the copies that are left has made them all.
--- Assumes nothing.
 use borrow.Author.Needs.{needs}
 use mathlib.Core.Path.{_≡_, refl, sym, ap, _∙_}
 use mathlib.Core.List.{List}
@@ -15,35 +14,34 @@ use Rattle.aries.specs.declared.state.State.{State}
 use Rattle.aries.specs.Outcome.{Out}
 use Rattle.aries.specs.Hits.{Made, andThen}
 use Rattle.aries.specs.Judging.{limits}
-use Rattle.aries.specs.Layouts.{copyCount, copyPlace, copy, copyAll}
+use Rattle.aries.specs.Layouts.{Part, copyCount, copyPlace, partOf, copy, copyAll}
 use Rattle.aries.specs.Macros.{bodiesOf}
 use Rattle.aries.specs.Runs.{hitsMade, lent, Ran}
 use Rattle.aries.proofs.Runs.{Leads, leads-start, leads-as, leads-on, leads-out, leads-end}
 use Rattle.lanes.specs.Cursors.{cursorAt}
 use Rattle.lanes.proofs.Cursors.{at-zero}
-use Rattle.bodies.specs.declared.Opening.{Opening}
 use Rattle.placing.proofs.CopyPlace.{count-fits, cursor-inside, place-here, may-advance, advanced}
-use Rattle.copies.specs.Copying.{openedPart}
+use Rattle.copies.specs.Copying.{bodyOf}
 use Rattle.copies.proofs.CopyAll.{copies-step, copies-end}
 use Rattle.copies.proofs.copy_body.Statement.{statement}
 use Rattle.copies.proofs.copy_body.Tie as tie
 
 -- so many copies, from copy m on
-abbrev left : List ℕ → List ℕ → Opening → Macros → Frame → ℕ → Layout → Copies → State → ℕ → ℕ → Progress → Out (Made Progress)
-left text body opening macros frame line layout copies found n m g =
-    copyAll (limits (frame .job)) (openedPart (limits (frame .job)) (bodiesOf text macros) opening body) frame line found (copyPlace (frame .origin) layout copies) n m g
+abbrev left : List ℕ → List ℕ → ℕ → Macros → Frame → ℕ → Layout → Copies → State → ℕ → ℕ → Progress → Out (Made Progress)
+left text body first macros frame line layout copies found n m g =
+    copyAll (limits (frame .job)) (partOf (limits (frame .job)) (bodiesOf text macros) (bodyOf first body)) frame line found (copyPlace (frame .origin) layout copies) n m g
 
 abbrev Inv-loop : tie.InvT-loop
-Inv-loop list₀ text body opening macros frame line layout copies origin found last count now₀ cursor₀ m₀ list now cursor m =
+Inv-loop list₀ text body first start macros frame line layout copies origin found last count now₀ cursor₀ m₀ list now cursor m =
     (m ≤ count)
     × (cursor ≡ cursorAt last m)
     × (length list ≡ length list₀)
     × Leads hitsMade (frame .job)
-    (lent list) (now .hits) (left text body opening macros frame line layout copies found (copyCount layout - m) m now)
-    (lent list₀) (now₀ .hits) (left text body opening macros frame line layout copies found (copyCount layout) 0 now₀)
+    (lent list) (now .hits) (left text body first macros frame line layout copies found (copyCount layout - m) m now)
+    (lent list₀) (now₀ .hits) (left text body first macros frame line layout copies found (copyCount layout) 0 now₀)
 
 abbrev μ-loop : tie.MeasureT-loop
-μ-loop list₀ text body opening macros frame line layout copies origin found last count now₀ cursor₀ m₀ list now cursor m = count - m
+μ-loop list₀ text body first start macros frame line layout copies origin found last count now₀ cursor₀ m₀ list now cursor m = count - m
 
 -- what was handed in
 abbrev entry : (c : tie.At-loop Inv-loop μ-loop) → tie.Start Inv-loop μ-loop
@@ -51,31 +49,37 @@ entry c = c .before .before .before .before .before .before .before .before
 
 -- steps are 16 bits wide
 steps-fit : (c : tie.Start Inv-loop μ-loop) → (c .args .layout .steps .x ≤ 65535) × (c .args .layout .steps .y ≤ 65535)
-steps-fit c = let g = c .good .1 .1 .1 .1 .1 .1 .1 .0 in omega (arith, g)
+steps-fit c = let g = c .good .1 .1 .1 .1 .1 .1 .1 .1 .0 in omega (arith, g)
+
+-- the part
+abbrev part : tie.Start Inv-loop μ-loop → Part
+part s =
+    let a = s .args in
+    partOf (limits (a .frame .job)) (bodiesOf (a .text .now) (a .macros)) (bodyOf (a .first) (a .body .now))
 
 -- copy m, and so many from m on
 abbrev one : tie.Start Inv-loop μ-loop → ℕ → Progress → Out (Made Progress)
 one s m g =
     let a = s .args in
     let j = limits (a .frame .job) in
-    copy j (openedPart j (bodiesOf (a .text .now) (a .macros)) (a .opening) (a .body .now)) (a .frame) (a .line) (a .progress .state) (copyPlace (a .frame .origin) (a .layout) (a .copies) m) g
+    copy j (part s) (a .frame) (a .line) (a .progress .state) (copyPlace (a .frame .origin) (a .layout) (a .copies) m) g
 
 abbrev rest : tie.Start Inv-loop μ-loop → ℕ → ℕ → Progress → Out (Made Progress)
-rest s n m g = let a = s .args in left (a .text .now) (a .body .now) (a .opening) (a .macros) (a .frame) (a .line) (a .layout) (a .copies) (a .progress .state) n m g
+rest s n m g = let a = s .args in left (a .text .now) (a .body .now) (a .first) (a .macros) (a .frame) (a .line) (a .layout) (a .copies) (a .progress .state) n m g
 
 -- a turn is for a copy that there is
 more : (c : tie.In-loop Inv-loop μ-loop) → c .before .loop .m < copyCount (entry (c .before) .args .layout)
 more c = omega (arith, c .before .before .before .copy-count .ensures, c .loop-test .taken)
 
 -- it is made
-copied : (c : tie.After-copy-at Inv-loop μ-loop) → let t = c .before .before .before .before in
-    Ran hitsMade (entry t .args .frame .job) (c .copy-at .result .status) (c .copy-at .result .progress) (lent (t .loop .list)) (lent (c .copy-at .last .0)) (t .loop .now .hits) (one (entry t) (t .loop .m) (t .loop .now))
+copied : (c : tie.After-copy-next Inv-loop μ-loop) → let t = c .before .before .before .before in
+    Ran hitsMade (entry t .args .frame .job) (c .copy-next .result .status) (c .copy-next .result .progress) (lent (t .loop .list)) (lent (c .copy-next .last .0)) (t .loop .now .hits) (one (entry t) (t .loop .m) (t .loop .now))
 copied c =
     let t = c .before .before .before .before in
     let l = t .before .before .before .lane-end in
     let a = entry t .args in
     let p = c .before .before .copy-place .ensures ∙ place-here (a .layout) (a .copies) (l .result) (t .loop .m) (t .loop .cursor) (l .ensures) (t .loop .inv .1) (a .frame .origin) in
-    rw p at (c .copy-at .ensures)
+    rw p at (c .copy-next .ensures)
 
 -- and the rest follows
 leads : (c : tie.In-loop Inv-loop μ-loop) → let t = c .before in let m = t .loop .m in let n = copyCount (entry t .args .layout) in
@@ -86,15 +90,6 @@ leads c =
     let t = c .before in
     let a = entry t .args in
     leads-as (copies-step (limits (a .frame .job)) _ (a .frame) (a .line) (a .progress .state) (copyPlace (a .frame .origin) (a .layout) (a .copies)) (copyCount (a .layout)) (t .loop .m) (t .loop .now) (more c)) (t .loop .inv .3)
-
-lane-end-requires : tie.Need-lane-end-requires Inv-loop μ-loop
-lane-end-requires c κs = search needs
-
-copy-count-requires : tie.Need-copy-count-requires Inv-loop μ-loop
-copy-count-requires c κs = search needs
-
-first-requires : tie.Need-first-requires Inv-loop μ-loop
-first-requires c κs = search needs
 
 loop-holds : tie.Need-loop-holds Inv-loop μ-loop
 loop-holds c =
@@ -114,24 +109,18 @@ copy-place-requires c κs =
     let l = c .before .before .before .before .lane-end in
     cursor-inside (a .layout) (a .copies) (l .result) (p .m) (p .cursor) (l .ensures) (p .inv .1) (more c)
 
-copy-at-requires : tie.Need-copy-at-requires Inv-loop μ-loop
-copy-at-requires c κs = search needs
-
 enum-told : tie.Need-enum-told Inv-loop μ-loop
 enum-told c = search needs
 
 same-length : tie.Need-same-length Inv-loop μ-loop
 same-length c =
     let r = c .before .before .before in
-    r .copy-at .kept .0 ∙ r .before .before .before .before .loop .inv .2
+    r .copy-next .kept .0 ∙ r .before .before .before .before .loop .inv .2
 
 returns : tie.Need-returns Inv-loop μ-loop
 returns c =
     let r = c .before .before .before in
     rw (c .enum-told .given .1) (leads-out _ (rw (c .enum-told .given .1) at (copied r)) (leads (r .before .before .before)))
-
-enum-told-2 : tie.Need-enum-told-2 Inv-loop μ-loop
-enum-told-2 c = search needs
 
 next-requires : tie.Need-next-requires Inv-loop μ-loop
 next-requires c κs =
@@ -160,15 +149,9 @@ loop-again c =
     let l = t .before .before .before .before .lane-end in (
       omega (arith, t .loop-test .taken),
       advanced (a .layout) (a .copies) (l .result) (p .m) (p .cursor) (l .ensures) (p .inv .1) (c .next .ensures),
-      r .copy-at .kept .0 ∙ p .inv .2,
+      r .copy-next .kept .0 ∙ p .inv .2,
       leads-on _ _ (rw (c .before .before .enum-told2 .given .1) at (copied r)) (leads t),
     )
-
-passed-requires : tie.Need-passed-requires Inv-loop μ-loop
-passed-requires c κs = search needs
-
-same-length-2 : tie.Need-same-length-2 Inv-loop μ-loop
-same-length-2 c = search needs
 
 returns-2 : tie.Need-returns-2 Inv-loop μ-loop
 returns-2 c =
@@ -184,20 +167,20 @@ copy-body-spec =
     (tie.spec
     Inv-loop
     μ-loop
-    lane-end-requires
-    copy-count-requires
-    first-requires
+    (λ c κs. search needs)
+    (λ c κs. search needs)
+    (λ c κs. search needs)
     loop-holds
     copy-place-requires
-    copy-at-requires
+    (λ c κs. search needs)
     enum-told
     same-length
     returns
-    enum-told-2
+    (λ c. search needs)
     next-requires
     add-m
     loop-less
     loop-again
-    passed-requires
-    same-length-2
+    (λ c κs. search needs)
+    (λ c. search needs)
     returns-2)

@@ -6,11 +6,9 @@ use borrow.Author.Needs.{needs}
 use borrow.Author.Tests.{not-true, not-false}
 use Rattle.aries.specs.Judging.{limits}
 use Rattle.aries.specs.Bodies.{firstRun}
-use Rattle.aries.specs.Macros.{Body, bodiesOf, mostCalls, call}
+use Rattle.aries.specs.Macros.{Body}
 use Rattle.aries.specs.Setup.{ordinaryFrame}
 use Rattle.aries.proofs.Carried.{carried-no-hit}
-use Rattle.text.proofs.Lines.{blanks-short}
-use Rattle.bodies.proofs.Lines.{body-opened}
 use Rattle.storing.proofs.Opening.{runs-not, runs-once}
 use Rattle.storing.proofs.first_run.Statement.{statement}
 use Rattle.storing.proofs.first_run.Tie as tie
@@ -24,23 +22,19 @@ returns c =
     (sym (r .runs-first .ensures) ∙ not-true _ (c .before .if1 .taken)))
 
 run-blocks-requires : tie.Need-run-blocks-requires
-run-blocks-requires c κs =
-    let o = c .before .before in
-    let e = o .before .before .before .before .before in
-    omega (arith, o .first-block .ensures, blanks-short (e .args .body .now), e .good)
+run-blocks-requires c κs = let e = c .before .before .before .before .before .before in omega (arith, e .good)
 
 returns-2 : tie.Need-returns-2
 returns-2 c =
     let r = c .before in
     let f = r .before in
-    let o = f .before .before in
-    let t = o .before .before in
+    let n = f .before .before in
+    let t = n .before in
     let a = t .before .before .before .args in
     let b : Body = record { line = a .first; bytes = a .body .now } in
     let j = limits (a .setup .job) in
-    rw (runs-once j (a .text .now) (a .macros) (a .number) b (a .setup) (a .progress) (sym (t .runs-first .ensures) ∙ not-false _ (o .before .if1 .left)))
-    (rw (body-opened j (call j (bodiesOf (a .text .now) (a .macros)) (mostCalls - 1)) (ordinaryFrame (a .setup)) (a .body .now) (a .first) (o .first-block .result) (a .progress) (o .first-block .ensures)) at
-    (rw (f .frame .ensures) at (r .run-blocks .ensures)))
+    rw (runs-once j (a .text .now) (a .macros) (a .number) b (a .setup) (a .progress) (sym (t .runs-first .ensures) ∙ not-false _ (n .if1 .left)))
+    (rw (f .frame .ensures) at (r .run-blocks .ensures))
 
 pub first-run-spec : {M : Type 1} → statement M
 first-run-spec =
@@ -48,7 +42,7 @@ first-run-spec =
     (tie.spec
     (λ c κs. search needs) (λ c κs. search needs)
     returns
-    (λ c κs. search needs) (λ c κs. search needs)
+    (λ c κs. search needs)
     run-blocks-requires
     (λ c. search needs)
     returns-2)

@@ -25,9 +25,6 @@ outside c =
     let b = c .before .before .before in
     block b ∙ ap (closes (b .before .before .before .before .before .args .number)) (c .before .block .given .1)
 
-decode-requires : tie.Need-decode-requires
-decode-requires c κs = search needs
-
 returns : tie.Need-returns
 returns c =
     let d = c .before .before in
@@ -55,7 +52,7 @@ pub is-own-close-spec : {M : Type 1} → statement M
 is-own-close-spec =
     tie.close
     (tie.spec
-    decode-requires
+    (λ c κs. search needs)
     (λ c. search needs) (λ c. search needs)
     returns
     (λ c. search needs)

@@ -1,17 +1,22 @@
--- The loop's invariant: the next block is at hand, and whoever carries out the stretch from there on has carried out the
--- whole. Each exit is a turn of `Turns`.
-use mathlib.Core.Path.{_≡_, refl, sym, ap, _∙_}
-use mathlib.Core.Bool.{true, false, not, _&&_}
+-- The loop's invariant: what is ahead is known, and whoever carries out the stretch from there on has carried out the whole.
+-- Each exit is a turn of `Turns`.
+use mathlib.Core.Path.{_≡_, refl, sym, ap, subst, _∙_}
+use mathlib.Core.Bool.{false, not, _&&_}
 use mathlib.Core.List.{List}
+use mathlib.Core.Logic.{⊎-elim}
 use Prim.Native.Nat.{ℕ, _+_, _-_, _<_, _≤_}
 use native.Mathlib.Omega.{arith}
 use borrow.Author.Needs.{needs}
 use lib.Dec.{eqb, leb}
-use lib.ListN.{length, getD, drop, length-drop}
+use lib.IntN.{ℤ}
+use lib.ListN.{length, getD, drop}
+use Rattle.aries.specs.declared.block.Decoded.{Decoded}
 use Rattle.aries.specs.declared.block.Decoded.the-variants as Decoded
+use Rattle.aries.specs.declared.block.Direct.{Direct}
 use Rattle.aries.specs.declared.block.Instruction.{Instruction}
 use Rattle.aries.specs.declared.state.Frame.{Frame}
 use Rattle.aries.specs.declared.state.Progress.{Progress}
+use Rattle.aries.specs.declared.state.Status.{Status}
 use Rattle.aries.specs.declared.state.Status.the-variants.{Passed, Refused}
 use Rattle.aries.specs.Outcome.{Out}
 use Rattle.aries.specs.Hits.{Made}
@@ -19,56 +24,52 @@ use Rattle.aries.specs.Judging.{Judging, limits}
 use Rattle.aries.specs.Letters.{letterV}
 use Rattle.aries.specs.Macros.{carryDirect, begun}
 use Rattle.aries.specs.Runs.{lent, Ran, hitsMade}
-use Rattle.aries.specs.Text.{lines, lineFeed}
-use Rattle.text.proofs.Lines.{line-goes-on, line-inside, blanks-inside, blanks-short, next-stop}
+use Rattle.aries.specs.Text.{lines}
+use Rattle.text.proofs.Lines.{line-goes-on, line-inside}
 use Rattle.decode.specs.Decoding.{decodedAt}
 use Rattle.decode.proofs.Decoding.{decoded-instruction}
-use Rattle.stretches.specs.Stretches.{Stretched, stepOf, onward, stretch}
-use Rattle.stretches.proofs.Stretches.{StretchLeads, lead-as, lead-start, lead-skip, lead-on, stretch-refused, stretch-ended, stretch-end}
+use Rattle.stretches.specs.Lookahead.{ahead}
+use Rattle.stretches.specs.Stretches.{Stretched, refusedAt, stepOf, onward, stretch}
+use Rattle.stretches.proofs.Lookahead.{Meets, ahead-block, ahead-nothing}
+use Rattle.stretches.proofs.Stretches.{StretchLeads, lead-as, lead-start, lead-skip, lead-on, stretch-refused, stretch-ended, stretch-skip, stretch-end}
 use Rattle.aries.proofs.Runs.{refused-out}
-use Rattle.stretches.proofs.Turns.{turn-spent, turn-refused, turn-direct, turn-call, turn-outside, counted-room}
+use Rattle.stretches.proofs.Turns.{turn-spent, turn-refused, turn-direct, turn-stop, counted-room}
 use Rattle.stretches.proofs.run_stretch.Statement.{statement}
 use Rattle.stretches.proofs.run_stretch.Tie as tie
 
 abbrev Inv-loop : tie.InvT-loop
-Inv-loop list₀ text from first frame now₀ at₀ line₀ list now at line =
+Inv-loop list₀ text from first frame now₀ at₀ line₀ next₀ list now at line next =
     (line + (length text - at) ≤ first + (length text - from))
-    × (at < length text → getD text at 0 ≡ lineFeed → ⊥)
+    × (next ≡ ahead text at line)
     × (length list ≡ length list₀)
     × StretchLeads (frame .job) (lent list) (now .hits) (stretch (limits (frame .job)) frame at line (lines (drop at text)) now) (lent list₀) (now₀ .hits)
     (stretch (limits (frame .job)) frame from first (lines (drop from text)) now₀)
 
 abbrev μ-loop : tie.MeasureT-loop
-μ-loop list₀ text from first frame now₀ at₀ line₀ list now at line = length text - at
-
--- ---- Up to the loop
-
-next-block-requires : tie.Need-next-block-requires Inv-loop μ-loop
-next-block-requires c κs = search needs
-
-sub-line : tie.Need-sub-line Inv-loop μ-loop
-sub-line c = omega (arith, c .next-block .ensures)
-
-add-line : tie.Need-add-line Inv-loop μ-loop
-add-line c =
-    let a = c .before .before .args in
-    omega (arith, c .before .before .pre, c .next-block .ensures, blanks-short (drop (a .from) (a .text .now)), length-drop (a .from) (a .text .now))
+μ-loop list₀ text from first frame now₀ at₀ line₀ next₀ list now at line next = length text - at
 
 loop-holds : tie.Need-loop-holds Inv-loop μ-loop
-loop-holds c =
-    let a = c .before .before .args in (
-      omega (arith, c .next-block .ensures, blanks-short (drop (a .from) (a .text .now)), length-drop (a .from) (a .text .now)),
-      next-stop (a .text .now) (a .from) (c .next-block .result) (c .next-block .ensures),
-      refl,
-      lead-start (limits (a .frame .job)) (a .frame) (a .text .now) (a .from) (a .first) (c .next-block .result) (a .progress) (c .next-block .ensures) refl,
-    )
+loop-holds c = (omega arith, c .before .pre .1, refl, lead-start refl)
 
--- ---- In the loop
+-- ---- Nothing is ahead
 
--- what is known of the block at hand
-module _ (p : tie.In-loop Inv-loop μ-loop) where
+returns : tie.Need-returns Inv-loop μ-loop
+returns c =
+    let here = c .before .before .before .loop in
+    let a = c .before .before .before .before .before .args in
+    let j = limits (a .frame .job) in
+    stretch-ended (c .passed .result) (a .frame) (lent (a .list .now)) (a .progress) (λ j. stretch j (a .frame) (a .from) (a .first) (lines (drop (a .from) (a .text .now)))) (c .passed .ensures)
+    (stretch-skip j (a .frame) (a .text .now) (here .at) (here .line) (here .now)
+    ∙ stretch-end j (a .frame) (a .text .now) _ _ (here .now) (ahead-nothing (a .text .now) (here .at) (here .line) (sym (here .inv .1) ∙ c .before .enum-told .given .1))) (here .inv .3)
+
+-- ---- A block is ahead
+
+module _ (k : tie.After-known-told Inv-loop μ-loop) where
+  abbrev around : tie.At-loop Inv-loop μ-loop
+  around = k .before .before .before
+
   abbrev entry : tie.Start Inv-loop μ-loop
-  entry = p .before .before .before .before
+  entry = around .before .before
 
   abbrev text : List ℕ
   text = entry .args .text .now
@@ -76,75 +77,68 @@ module _ (p : tie.In-loop Inv-loop μ-loop) where
   abbrev frame : Frame
   frame = entry .args .frame
 
+  abbrev now : Progress
+  now = around .loop .now
+
+  abbrev place : ℕ
+  place = k .before .next .given .0 .0
+
+  abbrev number : ℕ
+  number = k .before .next .given .0 .1 .0
+
+  abbrev decoded : Decoded
+  decoded = k .before .next .given .0 .1 .1 .0
+
   abbrev whole : Judging → Progress → Stretched
   whole j = stretch j frame (entry .args .from) (entry .args .first) (lines (drop (entry .args .from) text))
 
-  inside : p .before .loop .at < length text
-  inside = p .loop-test .taken
+  meets : Meets text (around .loop .at) (around .loop .line) place number decoded
+  meets = ahead-block text (around .loop .at) (around .loop .line) place number decoded (sym (around .loop .inv .1) ∙ k .before .next .given .1)
 
-  block : getD text (p .before .loop .at) 0 ≡ lineFeed → ⊥
-  block = p .before .loop .inv .1 (p .loop-test .taken)
+  -- what is left, from the block on
+  lead : StretchLeads (frame .job) (lent (around .loop .list)) (now .hits) (stretch (limits (frame .job)) frame place number (lines (drop place text)) now) (lent (entry .args .list .now)) (entry .args .progress .hits) (whole (limits (frame .job)) (entry .args .progress))
+  lead = lead-skip (limits (frame .job)) frame text (around .loop .at) (around .loop .line) place number now (meets .past) (meets .counted) (around .loop .inv .3)
 
 shared-slice-read-counted : tie.Need-shared-slice-read-counted Inv-loop μ-loop
-shared-slice-read-counted c = search needs
-
-refused-requires : tie.Need-refused-requires Inv-loop μ-loop
-refused-requires c κs = search needs
-
-same-length : tie.Need-same-length Inv-loop μ-loop
-same-length c = search needs
-
-returns : tie.Need-returns Inv-loop μ-loop
-returns c =
-    let p = c .before .before .before .before in
-    let here = p .before .loop in
-    stretch-refused (c .refused .result) (frame p) (lent (entry p .args .list .now)) (entry p .args .progress) (whole p) (c .refused .ensures)
-    (turn-spent (frame p .job) (frame p) (text p) (here .at) (here .line) (here .now) (inside p) (block p) (c .before .if1 .taken)) (here .inv .3)
-
-decode-requires : tie.Need-decode-requires Inv-loop μ-loop
-decode-requires c κs = search needs
-
--- the line is decoded
-module _ (d : tie.After-decode Inv-loop μ-loop) where
-  abbrev turn : tie.In-loop Inv-loop μ-loop
-  turn = d .before .before .before .before
-
-  -- there is room for the block
-  abbrev may : not (eqb (getD (text turn) (turn .before .loop .at) 0) letterV) && leb 100000 (turn .before .loop .now .blocks) ≡ false
-  may = d .before .if1 .left
-
-enum-known-decoded : tie.Need-enum-known-decoded Inv-loop μ-loop
-enum-known-decoded c = search needs
-
-refused-requires-2 : tie.Need-refused-requires-2 Inv-loop μ-loop
-refused-requires-2 c κs = search needs
-
-same-length-2 : tie.Need-same-length-2 Inv-loop μ-loop
-same-length-2 c = search needs
+shared-slice-read-counted c = meets (c .before) .inside
 
 returns-2 : tie.Need-returns-2 Inv-loop μ-loop
 returns-2 c =
-    let d = c .before .before .before .before in
-    let p = turn d in
-    let here = p .before .loop in
-    let given = c .before .before .decoded .given in
-    stretch-refused (c .refused2 .result) (frame p) (lent (entry p .args .list .now)) (entry p .args .progress) (whole p) (c .refused2 .ensures)
-    (turn-refused (frame p .job) (frame p) (text p) (here .at) (here .line) (here .now) (inside p) (block p) (may d) (given .0 .0) (sym (d .decode .ensures) ∙ given .1)) (here .inv .3)
+    let k = c .before .before .before .before in
+    stretch-refused (c .refused .result) (frame k) (lent (entry k .args .list .now)) (entry k .args .progress) (whole k) (c .refused .ensures)
+    (turn-spent (frame k .job) (frame k) (text k) (place k) (number k) (now k) (meets k .inside) (meets k .block) (c .before .if1 .taken)) (lead k)
 
-enum-known-decoded-2 : tie.Need-enum-known-decoded-2 Inv-loop μ-loop
-enum-known-decoded-2 c = search needs
+-- ---- There is room for it
+
+module _ (r : tie.Else1 Inv-loop μ-loop) where
+  abbrev met : tie.After-known-told Inv-loop μ-loop
+  met = r .before .before .before
+
+  abbrev may : not (eqb (getD (text met) (place met) 0) letterV) && leb 100000 (now met .blocks) ≡ false
+  may = r .if1 .left
+
+returns-3 : tie.Need-returns-3 Inv-loop μ-loop
+returns-3 c =
+    let r = c .before .before .before .before in
+    let k = met r in
+    let given = c .before .before .decoded .given in
+    stretch-refused (c .refused2 .result) (frame k) (lent (entry k .args .list .now)) (entry k .args .progress) (whole k) (c .refused2 .ensures)
+    (turn-refused (frame k .job) (frame k) (text k) (place k) (number k) (now k) (meets k .inside) (meets k .block) (may r) (given .0 .0) (meets k .decoded ∙ given .1)) (lead k)
 
 begun-requires : tie.Need-begun-requires Inv-loop μ-loop
 begun-requires c κs =
-    let d = c .before .before .before in
-    let p = turn d in
-    let here = p .before .loop in
-    counted-room (frame p .job) (frame p) (text p) (here .at) (here .line) (here .now) (inside p) (block p) (may d)
+    let r = c .before .before .before in
+    let k = met r in
+    counted-room (frame k .job) (frame k) (text k) (place k) (number k) (now k) (meets k .inside) (meets k .block) (may r)
 
--- the block has begun
+-- ---- The block has begun
+
 module _ (b : tie.After-begun Inv-loop μ-loop) where
-  abbrev decoding : tie.After-decode Inv-loop μ-loop
-  decoding = b .before .before .before .before
+  abbrev room : tie.Else1 Inv-loop μ-loop
+  room = b .before .before .before .before
+
+  abbrev at-block : tie.After-known-told Inv-loop μ-loop
+  at-block = met room
 
   abbrev instruction : Instruction
   instruction = b .before .before .decoded2 .given .0 .0
@@ -152,159 +146,123 @@ module _ (b : tie.After-begun Inv-loop μ-loop) where
   abbrev end : ℕ
   end = b .before .before .decoded2 .given .0 .1 .0
 
-  decodes : decodedAt (text (turn decoding)) (turn decoding .before .loop .at) ≡ Decoded.Instruction instruction end
-  decodes = sym (decoding .decode .ensures) ∙ b .before .before .decoded2 .given .1
+  decodes : decodedAt (text at-block) (place at-block) ≡ Decoded.Instruction instruction end
+  decodes = meets at-block .decoded ∙ b .before .before .decoded2 .given .1
 
   -- its line ends behind its place, and within the text
-  line-end : (turn decoding .before .loop .at < end) × (end ≤ length (text (turn decoding)))
+  line-end : (place at-block < end) × (end ≤ length (text at-block))
   line-end =
-      let p = turn decoding in
-      let e = decoded-instruction (text p) (p .before .loop .at) instruction end decodes .1 in (
-        omega (arith, e, line-goes-on (text p) (p .before .loop .at) (inside p) (block p)),
-        omega (arith, e, line-inside (text p) (p .before .loop .at) (omega (arith, inside p))),
+      let k = at-block in
+      let e = decoded-instruction (text k) (place k) instruction end decodes .1 in (
+        omega (arith, e, line-goes-on (text k) (place k) (meets k .inside) (meets k .block)),
+        omega (arith, e, line-inside (text k) (place k) (omega (arith, meets k .inside))),
       )
 
-enum-known-block : tie.Need-enum-known-block Inv-loop μ-loop
-enum-known-block c = search needs
-
-carry-direct-requires : tie.Need-carry-direct-requires Inv-loop μ-loop
-carry-direct-requires c κs = search needs
-
-enum-known-status : tie.Need-enum-known-status Inv-loop μ-loop
-enum-known-status c = search needs
-
-refused-requires-3 : tie.Need-refused-requires-3 Inv-loop μ-loop
-refused-requires-3 c κs = search needs
-
--- a direct block is carried out
-module _ (c : tie.After-carry-direct Inv-loop μ-loop) where
-  abbrev began : tie.After-begun Inv-loop μ-loop
-  began = c .before .before .before .before .before
-
-  abbrev at-block : tie.In-loop Inv-loop μ-loop
-  at-block = turn (decoding began)
-
-  -- what it makes
-  abbrev made : Out (Made Progress)
-  made =
-      let here = at-block .before .loop in
-      carryDirect (limits (frame at-block .job)) (frame at-block) (here .line) (c .before .before .before .block .given .0 .0)
-      (begun (not (eqb (getD (text at-block) (here .at) 0) letterV)) (instruction began .measure) (here .now))
-
-  -- what follows it
-  abbrev rest : Progress → Stretched
-  rest = stretch (limits (frame at-block .job)) (frame at-block) (end began) (at-block .before .loop .line) (lines (drop (end began) (text at-block)))
-
-  made-ran : Ran hitsMade (frame at-block .job) (c .carry-direct .result .status) (c .carry-direct .result .progress) (lent (at-block .before .loop .list)) (lent (c .carry-direct .last .0)) (at-block .before .loop .now .hits) made
-  made-ran = rw (began .begun .ensures) at (c .carry-direct .ensures)
-
-  here-made : stretch (limits (frame at-block .job)) (frame at-block) (at-block .before .loop .at) (at-block .before .loop .line) (lines (drop (at-block .before .loop .at) (text at-block))) (at-block .before .loop .now) ≡ onward (stepOf made) rest
-  here-made =
-      let here = at-block .before .loop in
-      turn-direct (frame at-block .job) (frame at-block) (text at-block) (here .at) (here .line) (here .now) (inside at-block) (block at-block) (may (decoding began)) (instruction began) (end began) (decodes began)
-      (c .before .before .before .block .given .0 .0) (c .before .before .before .block .given .1)
-
-same-length-3 : tie.Need-same-length-3 Inv-loop μ-loop
-same-length-3 c =
-    let carried = c .before .before .before .before .before .before in
-    carried .carry-direct .kept .0 ∙ at-block carried .before .loop .inv .2
-
-returns-3 : tie.Need-returns-3 Inv-loop μ-loop
-returns-3 c =
-    let carried = c .before .before .before .before .before .before in
-    let p = at-block carried in
-    let given = c .before .before .status .given in
-    let out = refused-out (made carried) (sym (given .1) ∙ made-ran carried .same-status) in
-    stretch-refused (c .refused3 .result) (frame p) (lent (entry p .args .list .now)) (entry p .args .progress) (whole p) (c .refused3 .ensures)
-    (here-made carried ∙ ap (λ (o : Out (Made Progress)). onward (stepOf o) (rest carried)) out) (p .before .loop .inv .3)
-
-enum-told : tie.Need-enum-told Inv-loop μ-loop
-enum-told c = search needs
-
-next-block-requires-2 : tie.Need-next-block-requires-2 Inv-loop μ-loop
-next-block-requires-2 c κs = search needs
-
-sub-line-2 : tie.Need-sub-line-2 Inv-loop μ-loop
-sub-line-2 c = omega (arith, c .next-block2 .ensures)
-
--- the next block lies behind this one, within the text
-module _ (c : tie.After-next-block2 Inv-loop μ-loop) where
-  abbrev carried : tie.After-carry-direct Inv-loop μ-loop
-  carried = c .before .before .before .before .before
-
-  next-inside : c .next-block2 .result ≤ length (text (at-block carried))
-  next-inside = omega (arith, c .next-block2 .ensures, blanks-inside (text (at-block carried)) (end (began carried)) (line-end (began carried) .1))
-
-add-line-2 : tie.Need-add-line-2 Inv-loop μ-loop
-add-line-2 c =
-    let p = at-block (carried c) in
-    omega (arith, entry p .pre, p .before .loop .inv .0, line-end (began (carried c)) .0, next-inside c, c .next-block2 .ensures)
-
-loop-less : tie.Need-loop-less Inv-loop μ-loop
-loop-less c = omega (arith, inside (at-block (carried c)), line-end (began (carried c)) .0, next-inside c, c .next-block2 .ensures)
-
-loop-again : tie.Need-loop-again Inv-loop μ-loop
-loop-again c =
-    let p = at-block (carried c) in
-    let here = p .before .loop in
-    let out = carried c .carry-direct in (
-      omega (arith, here .inv .0, line-end (began (carried c)) .0, next-inside c, c .next-block2 .ensures),
-      next-stop (text p) (end (began (carried c))) (c .next-block2 .result) (c .next-block2 .ensures),
-      out .kept .0 ∙ here .inv .2,
-      lead-skip (limits (frame p .job)) (frame p) (text p) (end (began (carried c))) (here .line) (c .next-block2 .result) (out .result .progress) (c .next-block2 .ensures)
-          (lead-on (made (carried c)) (rest (carried c)) (c .before .enum-told .given .1) (made-ran (carried c)) (lead-as (here-made (carried c)) (here .inv .3))),
-    )
-
--- ---- A block that is not direct, and the end
-
-enum-known-block-2 : tie.Need-enum-known-block-2 Inv-loop μ-loop
-enum-known-block-2 c = search needs
-
-passed-requires : tie.Need-passed-requires Inv-loop μ-loop
-passed-requires c κs = search needs
-
 same-length-4 : tie.Need-same-length-4 Inv-loop μ-loop
-same-length-4 c = turn (decoding (c .before .before .before .before)) .before .loop .inv .2
+same-length-4 c = around (at-block (c .before .before .before)) .loop .inv .2
 
 returns-4 : tie.Need-returns-4 Inv-loop μ-loop
 returns-4 c =
-    let b = c .before .before .before .before in
-    let p = turn (decoding b) in
-    let here = p .before .loop in
-    let given = c .before .before .block2 .given in
-    stretch-ended (c .passed .result) (frame p) (lent (entry p .args .list .now)) (entry p .args .progress) (whole p) (rw (b .begun .ensures) at (c .passed .ensures))
-    (turn-call (frame p .job) (frame p) (text p) (here .at) (here .line) (here .now) (inside p) (block p) (may (decoding b)) (instruction b) (end b) (decodes b) (given .0 .0) (given .1)) (here .inv .3)
+    let b = c .before .before .before in
+    let k = at-block b in
+    stretch-ended (c .passed2 .result) (frame k) (lent (entry k .args .list .now)) (entry k .args .progress) (whole k) (rw (b .begun .ensures) at (rw (c .before .at .ensures) at (c .passed2 .ensures)))
+    (turn-stop (frame k .job) (frame k) (text k) (place k) (number k) (now k) (meets k .inside) (meets k .block) (may (room b)) (instruction b) (end b) (decodes b) (c .before .before .match3 .keys2)) (lead k)
 
-enum-known-block-3 : tie.Need-enum-known-block-3 Inv-loop μ-loop
-enum-known-block-3 c = search needs
+-- ---- A direct block
 
-passed-requires-2 : tie.Need-passed-requires-2 Inv-loop μ-loop
-passed-requires-2 c κs = search needs
+module _ (p : tie.After-is-pattern Inv-loop μ-loop) where
+  abbrev began : tie.After-begun Inv-loop μ-loop
+  began = p .before .before .before .before
+
+  abbrev here : tie.After-known-told Inv-loop μ-loop
+  here = at-block began
+
+  abbrev direct : Direct
+  direct = p .before .before .block .given .0 .0
+
+  abbrev judging : Judging
+  judging = limits (frame here .job)
+
+  -- what it makes
+  abbrev made : Out (Made Progress)
+  made = carryDirect judging (frame here) (number here) direct (begun (not (eqb (getD (text here) (place here) 0) letterV)) (instruction began .measure) (now here))
+
+  -- what follows it
+  abbrev rest : Progress → Stretched
+  rest = stretch judging (frame here) (end began) (number here) (lines (drop (end began) (text here)))
+
+  here-made : stretch judging (frame here) (place here) (number here) (lines (drop (place here) (text here))) (now here) ≡ onward (stepOf made) rest
+  here-made =
+      turn-direct (frame here .job) (frame here) (text here) (place here) (number here) (now here) (meets here .inside) (meets here .block) (may (room began)) (instruction began) (end began) (decodes began)
+      direct (p .before .before .block .given .1)
+
+  -- it was carried out
+  module _
+      {status : Status} {left : Progress} {list : List ℤ}
+      (carried : Ran hitsMade (frame here .job) status left (lent (around here .loop .list)) (lent list) (began .begun .result .hits) (carryDirect judging (frame here) (number here) direct (began .begun .result))) where
+    made-ran : Ran hitsMade (frame here .job) status left (lent (around here .loop .list)) (lent list) (now here .hits) made
+    made-ran =
+        subst (λ (g : Progress). Ran hitsMade (frame here .job) status left (lent (around here .loop .list)) (lent list) (g .hits) (carryDirect judging (frame here) (number here) direct g)) (began .begun .ensures) carried
+
+    refuses : {code line : ℕ} → status ≡ Refused code line → stretch judging (frame here) (place here) (number here) (lines (drop (place here) (text here))) (now here) ≡ refusedAt code line
+    refuses e = here-made ∙ ap (λ (o : Out (Made Progress)). onward (stepOf o) rest) (refused-out made (sym e ∙ made-ran .same-status))
+
+    passes : status ≡ Passed → StretchLeads (frame here .job) (lent list) (left .hits) (rest left) (lent (entry here .args .list .now)) (entry here .args .progress .hits) (whole here judging (entry here .args .progress))
+    passes e = lead-on made rest e made-ran (lead-as here-made (lead here))
+
+  -- the lines behind it fit as those from the start do
+  fits : number here + (length (text here) - end began) ≤ entry here .args .first + (length (text here) - entry here .args .from)
+  fits = omega (arith, around here .loop .inv .0, meets here .past, meets here .counted, meets here .inside, line-end began .0)
+
+carry-pattern-requires : tie.Need-carry-pattern-requires Inv-loop μ-loop
+carry-pattern-requires c κs = sym (c .before .before .is-pattern .ensures) ∙ c .before .if2 .taken
 
 same-length-5 : tie.Need-same-length-5 Inv-loop μ-loop
-same-length-5 c = turn (decoding (c .before .before .before .before)) .before .loop .inv .2
+same-length-5 c =
+    let r = c .before .before .before .before .before .before in
+    r .carry-pattern .kept .0 ∙ around (here (r .before .before .before)) .loop .inv .2
 
 returns-5 : tie.Need-returns-5 Inv-loop μ-loop
 returns-5 c =
-    let b = c .before .before .before .before in
-    let p = turn (decoding b) in
-    let here = p .before .loop in
-    let given = c .before .before .block3 .given in
-    stretch-ended (c .passed2 .result) (frame p) (lent (entry p .args .list .now)) (entry p .args .progress) (whole p) (rw (b .begun .ensures) at (c .passed2 .ensures))
-    (turn-outside (frame p .job) (frame p) (text p) (here .at) (here .line) (here .now) (inside p) (block p) (may (decoding b)) (instruction b) (end b) (decodes b) (given .0 .0) (given .1)) (here .inv .3)
+    let r = c .before .before .before .before .before .before in
+    let p = r .before .before .before in
+    let k = here p in
+    stretch-refused (c .refused3 .result) (frame k) (lent (entry k .args .list .now)) (entry k .args .progress) (whole k) (c .refused3 .ensures) (refuses p (r .carry-pattern .ensures) (c .before .before .status .given .1)) (lead k)
 
-passed-requires-3 : tie.Need-passed-requires-3 Inv-loop μ-loop
-passed-requires-3 c κs = search needs
+carry-plain-requires : tie.Need-carry-plain-requires Inv-loop μ-loop
+carry-plain-requires c κs = sym (c .before .before .is-pattern .ensures) ∙ c .before .if2 .left
 
 same-length-6 : tie.Need-same-length-6 Inv-loop μ-loop
-same-length-6 c = search needs
+same-length-6 c =
+    let r = c .before .before .before .before .before .before in
+    r .carry-plain .kept .0 ∙ around (here (r .before .before .before)) .loop .inv .2
 
 returns-6 : tie.Need-returns-6 Inv-loop μ-loop
 returns-6 c =
-    let here = c .before .before .loop in
-    let a = c .before .before .before .before .before .args in
-    stretch-ended (c .passed3 .result) (a .frame) (lent (a .list .now)) (a .progress) (λ j. stretch j (a .frame) (a .from) (a .first) (lines (drop (a .from) (a .text .now)))) (c .passed3 .ensures)
-    (stretch-end (limits (a .frame .job)) (a .frame) (a .text .now) (here .at) (here .line) (here .now) (c .before .loop-test .left)) (here .inv .3)
+    let r = c .before .before .before .before .before .before in
+    let p = r .before .before .before in
+    let k = here p in
+    stretch-refused (c .refused4 .result) (frame k) (lent (entry k .args .list .now)) (entry k .args .progress) (whole k) (c .refused4 .ensures) (refuses p (r .carry-plain .ensures) (c .before .before .status2 .given .1)) (lead k)
+
+-- ---- And on to what is ahead
+
+look-ahead-requires : tie.Need-look-ahead-requires Inv-loop μ-loop
+look-ahead-requires c κs = omega (arith, entry (here (c .before)) .pre .0, fits (c .before))
+
+loop-less : tie.Need-loop-less Inv-loop μ-loop
+loop-less c =
+    let b = began (c .before .before) in
+    omega (arith, meets (at-block b) .past, meets (at-block b) .inside, line-end b .0, line-end b .1)
+
+loop-again : tie.Need-loop-again Inv-loop μ-loop
+loop-again c =
+    let p = c .before .before in
+    let same = around (here p) .loop .inv .2 in (
+      fits p,
+      c .look-ahead .ensures,
+      ⊎-elim (λ w. rw (w .7) (w .2 .kept .0 ∙ same)) (λ w. rw (w .7) (w .2 .kept .0 ∙ same)) (c .before .if2 .came),
+      ⊎-elim (λ w. rw (w .7, w .8) (passes p (w .2 .ensures) (w .6 .given .1))) (λ w. rw (w .7, w .8) (passes p (w .2 .ensures) (w .6 .given .1))) (c .before .if2 .came),
+    )
 
 pub run-stretch-spec : {M : Type 1} → statement M
 run-stretch-spec =
@@ -312,41 +270,40 @@ run-stretch-spec =
     (tie.spec
     Inv-loop
     μ-loop
-    next-block-requires
-    sub-line
-    add-line
     loop-holds
-    shared-slice-read-counted
-    refused-requires
-    same-length
+    (λ c. search needs)
+    (λ c. search needs)
+    (λ c κs. search needs)
+    (λ c. search needs)
     returns
-    decode-requires
-    enum-known-decoded
-    refused-requires-2
-    same-length-2
+    shared-slice-read-counted
+    (λ c κs. search needs)
+    (λ c. search needs)
     returns-2
-    enum-known-decoded-2
-    begun-requires
-    enum-known-block
-    carry-direct-requires
-    enum-known-status
-    refused-requires-3
-    same-length-3
+    (λ c. search needs)
+    (λ c κs. search needs)
+    (λ c. search needs)
     returns-3
-    enum-told
-    next-block-requires-2
-    sub-line-2
-    add-line-2
-    loop-less
-    loop-again
-    enum-known-block-2
-    passed-requires
+    (λ c. search needs)
+    begun-requires
+    (λ c. search needs)
+    (λ c κs. search needs)
+    (λ c κs. search needs)
     same-length-4
     returns-4
-    enum-known-block-3
-    passed-requires-2
+    (λ c κs. search needs)
+    carry-pattern-requires
+    (λ c. search needs)
+    (λ c κs. search needs)
     same-length-5
     returns-5
-    passed-requires-3
+    (λ c. search needs)
+    carry-plain-requires
+    (λ c. search needs)
+    (λ c κs. search needs)
     same-length-6
-    returns-6)
+    returns-6
+    (λ c. search needs)
+    look-ahead-requires
+    loop-less
+    loop-again)

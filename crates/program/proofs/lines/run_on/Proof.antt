@@ -21,11 +21,11 @@ use Rattle.program.proofs.lines.run_on.Tie as tie
 -- the stretch
 module _ (c : tie.After-run-stretch) where
   abbrev entry : tie.Start
-  entry = c .before .before .before .before
+  entry = c .before .before .before .before .before
 
   ran :
       let a = entry .args in
-      Ran hitsMade (a .setup .job) (c .run-stretch .result .status) (c .run-stretch .result .progress) (lent (a .list .now)) (lent (c .run-stretch .last .0)) (a .progress .hits)
+      Ran hitsMade (a .setup .job) (c .run-stretch .result .outcome .status) (c .run-stretch .result .outcome .progress) (lent (a .list .now)) (lent (c .run-stretch .last .0)) (a .progress .hits)
       (here (a .text .now) (a .at) (a .line) (a .setup) (a .progress) .made)
   ran = rw (c .before .frame .ensures) at (c .run-stretch .ensures .ran)
 
@@ -41,14 +41,14 @@ module _ (c : tie.After-run-stretch) where
 -- it passed
 module _ (c : tie.After-enum-told) where
   abbrev stretch : tie.After-run-stretch
-  stretch = c .before .before .before .before
+  stretch = c .before .before .before .before .before
 
-  passed : stretch .run-stretch .result .status ≡ Passed
+  passed : stretch .run-stretch .result .outcome .status ≡ Passed
   passed = c .enum-told .given .1
 
 returns : tie.Need-returns
 returns c =
-    let r = c .before .before .before .before .before .before in
+    let r = c .before .before .before .before .before .before .before in
     let a = entry r .args in
     stretch-refused (a .text .now) (a .at) (a .line) (a .setup) (a .progress) (ran r) (c .before .before .status .given .1) (c .running .ensures)
 
@@ -58,7 +58,7 @@ returns-2 c =
     let r = stretch p in
     let a = entry r .args in
     let n = entry r .pre in
-    let left = r .run-stretch .result .progress in
+    let left = r .run-stretch .result .outcome .progress in
     rw (c .running2 .ensures)
     (stretch-passed (a .text .now) (a .at) (a .line) (a .setup) (a .progress) (ran r) (passed p) (stopped r (c .before .enum-told2 .given .1))
     (λ m. text-end (limits (a .setup .job)) (a .text .now) (length (a .text .now)) (a .line) (program Running (a .setup) m left) (omega arith)) refl refl
@@ -91,8 +91,9 @@ pub run-on-spec : {M : Type 1} → statement M
 run-on-spec =
     tie.close
     (tie.spec
+    (λ c κs. let p = c .before .pre in omega arith)
     (λ c κs. search needs)
-    (λ c κs. let p = c .before .before .before .pre in omega arith)
+    (λ c κs. let p = c .before .before .before .before .pre in (omega arith, c .before .before .look-ahead .ensures))
     (λ c. search needs) (λ c κs. search needs) (λ c. search needs)
     returns
     (λ c. search needs) (λ c. search needs) (λ c κs. search needs) (λ c. search needs) (λ c κs. search needs) (λ c. search needs) (λ c κs. search needs)

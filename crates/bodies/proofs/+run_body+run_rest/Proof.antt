@@ -1,0 +1,458 @@
+-- The cycle of calls: a call that the block runner comes to goes to the body runner, and the body runner hands what follows
+-- the body's first stretch to the block runner, with one call less to open. Both fall in a measure of twice the calls left.
+-- The invariant of the block runner: whoever carries out what follows the stretch that the loop has come to has carried out
+-- what followed the first.
+use mathlib.Core.Path.{_≡_, refl, sym, ap, ap₂, _∙_, subst}
+use mathlib.Core.List.{List}
+use mathlib.Core.Option.{some}
+use Prim.Native.Nat.{ℕ, _<_, _≤_, _+_, _-_, _*_}
+use native.Mathlib.Omega.{arith}
+use borrow.Author.Needs.{needs}
+use lib.IntN.{ℤ}
+use lib.ListN.{length, take, drop, length-take}
+use Rattle.aries.specs.declared.state.Frame.{Frame}
+use Rattle.aries.specs.declared.state.Progress.{Progress}
+use Rattle.aries.specs.Outcome.{Out}
+use Rattle.aries.specs.Hits.{Made, andThen}
+use Rattle.aries.specs.Judging.{Judging, limits}
+use Rattle.aries.specs.Macros.{Body, part, Bodies, bodiesOf, Calls, runLines, call, runBody}
+use Rattle.aries.specs.Runs.{lent, hitsMade}
+use Rattle.aries.specs.Text.{lines}
+use Rattle.aries.proofs.Runs.{Leads, leads-start, leads-as, leads-on, leads-out, leads-end, ran-refused, status-as, passed-as}
+use Rattle.aries.proofs.Carried.{carried-refused}
+use Rattle.stretches.specs.declared.Stop.{Stop}
+use Rattle.stretches.specs.declared.Stop.the-variants as Stop
+use Rattle.stretches.specs.Stretches.{Stretched, stretch, LinesFit}
+use Rattle.stretches.proofs.Stops.{Stops, stretch-stops}
+use Rattle.bodies.specs.Rest.{rest, RestFits}
+use Rattle.bodies.proofs.Lines.{lines-stretched}
+use Rattle.bodies.proofs.Rest.{rest-fits, restSize, rest-less, size-call, lines-over, lines-left, left-fits}
+use Rattle.aries.proofs.Calls.{body-missing, body-found, clipped, clipped-within, part-clipped, call-missing, call-deep, call-body}
+use borrow.Fn.Kinds.{In}
+use borrow.Fn.PlainCycle.{Measures, is, falls, and}
+use Rattle.bodies.proofs.run_body.Reads as run-body
+use Rattle.bodies.proofs.run_body.Kinds as run-body-kinds
+use Rattle.bodies.proofs.+run_body+run_rest.Lts-run_body as run-body-lts
+use Rattle.bodies.proofs.run_rest.Reads as run-rest
+use Rattle.bodies.proofs.run_rest.Kinds as run-rest-kinds
+use Rattle.bodies.proofs.+run_body+run_rest.Lts-run_rest as run-rest-lts
+use Rattle.aries.proofs.macros.find_in.Reads as find-in-reads
+use Rattle.aries.proofs.state.Outcome.passed.Reads as passed-reads
+use Rattle.aries.proofs.state.Outcome.refused.Reads as refused-reads
+use Rattle.bodies.proofs.clip.Reads as clip-reads
+use Rattle.stretches.proofs.Stop.is_end.Reads as is-end-reads
+use Rattle.stretches.proofs.look_ahead.Reads as look-ahead-reads
+use Rattle.stretches.proofs.run_stretch.Reads as run-stretch-reads
+use Rattle.bodies.proofs.+run_body+run_rest.{statement}
+use Rattle.bodies.proofs.+run_body+run_rest.Tie.{close}
+
+abbrev μ-run-body : Measures 2 run-body-kinds.ps ℕ
+μ-run-body κs a = 2 * a .0
+
+abbrev μ-run-rest : Measures 3 run-rest-kinds.ps ℕ
+μ-run-rest κs a = 2 * a .0 + 1
+
+abbrev run-body-at : ℕ → In 2 run-body-kinds.ps
+run-body-at t = and 2 run-body-kinds.ps (is 2 run-body-kinds.ps μ-run-body t) run-body.Pre
+
+abbrev run-body-below : ℕ → In 2 run-body-kinds.ps
+run-body-below t =
+    and 2 run-body-kinds.ps (falls 2 run-body-kinds.ps _<_ μ-run-body t) run-body.Pre
+
+abbrev run-rest-at : ℕ → In 3 run-rest-kinds.ps
+run-rest-at t = and 3 run-rest-kinds.ps (is 3 run-rest-kinds.ps μ-run-rest t) run-rest.Pre
+
+abbrev run-rest-below : ℕ → In 3 run-rest-kinds.ps
+run-rest-below t =
+    and 3 run-rest-kinds.ps (falls 3 run-rest-kinds.ps _<_ μ-run-rest t) run-rest.Pre
+
+-- ---- The block runner
+
+abbrev rest-claims : ℕ → run-rest-lts.Claims
+rest-claims t = (
+  passed-reads.Asked,
+  passed-reads.Learnt,
+  refused-reads.Asked,
+  refused-reads.Learnt,
+  run-body-below t,
+  run-body.Post,
+  look-ahead-reads.Asked,
+  look-ahead-reads.Learnt,
+  run-stretch-reads.Asked,
+  run-stretch-reads.Learnt,
+)
+
+abbrev Inv-loop : run-rest-lts.InvT-loop
+Inv-loop depth list₀ text body macros frame now₀ stop₀ list now stop =
+    (RestFits body stop)
+    × (length list ≡ length list₀)
+    × Leads hitsMade (frame .job) (lent list) (now .hits)
+    (rest (limits (frame .job)) (call (limits (frame .job)) (bodiesOf text macros) depth) frame body stop now)
+    (lent list₀) (now₀ .hits)
+    (rest (limits (frame .job)) (call (limits (frame .job)) (bodiesOf text macros) depth) frame body stop₀ now₀)
+
+abbrev μ-loop : run-rest-lts.MeasureT-loop
+μ-loop depth list₀ text body macros frame now₀ stop₀ list now stop = restSize body stop
+
+module _ (t : ℕ) where
+  loop-holds : run-rest-lts.Need-loop-holds (rest-claims t) (run-rest-at t) run-rest.Post Inv-loop μ-loop
+  loop-holds c = (c .before .before .pre .1, refl, leads-start refl)
+
+  module _ (l : run-rest-lts.At-loop (rest-claims t) (run-rest-at t) run-rest.Post Inv-loop μ-loop) where
+    abbrev start-of : run-rest-lts.Start (rest-claims t) (run-rest-at t) run-rest.Post Inv-loop μ-loop
+    start-of = l .before .before .before
+
+    abbrev rest-body : List ℕ
+    rest-body = start-of .args .body .now
+
+    abbrev rest-frame : Frame
+    rest-frame = start-of .args .frame
+
+    abbrev rest-judging : Judging
+    rest-judging = limits (rest-frame .job)
+
+    abbrev rest-calls : Calls
+    rest-calls = call rest-judging (bodiesOf (start-of .args .text .now) (start-of .args .macros)) (start-of .args .depth)
+
+    -- what is left to do, by the block that the last stretch ended at
+    abbrev Left : List ℤ → Progress → Out (Made Progress) → Type 0
+    Left list g out = Leads hitsMade (rest-frame .job) (lent list) (g .hits) out (lent (start-of .args .list .now)) (start-of .args .progress .hits) (rest rest-judging rest-calls rest-frame rest-body (start-of .args .from) (start-of .args .progress))
+
+    left-at : (stop : Stop) → l .loop .stop ≡ stop → Left (l .loop .list) (l .loop .now) (rest rest-judging rest-calls rest-frame rest-body stop (l .loop .now))
+    left-at stop e = leads-as (ap (λ (x : Stop). rest rest-judging rest-calls rest-frame rest-body x (l .loop .now)) e) (l .loop .inv .2)
+
+  rest-same-length : run-rest-lts.Need-same-length (rest-claims t) (run-rest-at t) run-rest.Post Inv-loop μ-loop
+  rest-same-length c = c .before .before .before .loop .inv .1
+
+  rest-returns : run-rest-lts.Need-returns (rest-claims t) (run-rest-at t) run-rest.Post Inv-loop μ-loop
+  rest-returns c = rw (c .passed .ensures) (leads-end (left-at (c .before .before .before) Stop.End (c .before .enum-told .given .1)))
+
+  rest-same-length-2 : run-rest-lts.Need-same-length-2 (rest-claims t) (run-rest-at t) run-rest.Post Inv-loop μ-loop
+  rest-same-length-2 c = c .before .before .before .before .loop .inv .1
+
+  rest-returns-2 : run-rest-lts.Need-returns-2 (rest-claims t) (run-rest-at t) run-rest.Post Inv-loop μ-loop
+  rest-returns-2 c =
+      let given = c .before .before .stop .given in
+      rw (c .refused .ensures) (left-at (c .before .before .before .before) (Stop.Outside (given .0 .0) (given .0 .1 .0) (given .0 .1 .1 .0)) (given .1) _ _ _ ran-refused)
+
+  run-body-requires : run-rest-lts.Need-run-body-requires (rest-claims t) (run-rest-at t) run-rest.Post Inv-loop μ-loop
+  run-body-requires c κs =
+      let l = c .before .before .before .before in
+      let m : 2 * start-of l .args .depth + 1 ≡ t = start-of l .pre .0 in
+      (omega arith, tt)
+
+  -- the call is carried out
+  module _ (b : run-rest-lts.After-run-body (rest-claims t) (run-rest-at t) run-rest.Post Inv-loop μ-loop) where
+    abbrev at : run-rest-lts.At-loop (rest-claims t) (run-rest-at t) run-rest.Post Inv-loop μ-loop
+    at = b .before .before .before .before .before
+
+    abbrev number : ℕ
+    number = b .before .before .before .stop2 .given .0 .0
+
+    abbrev end : ℕ
+    end = b .before .before .before .stop2 .given .0 .1 .0
+
+    abbrev place : ℕ
+    place = b .before .before .before .stop2 .given .0 .1 .1 .0
+
+    is-call : at .loop .stop ≡ Stop.Call number end place
+    is-call = b .before .before .before .stop2 .given .1
+
+    -- the lines behind it
+    abbrev behind : Progress → Out (Made Progress)
+    behind = runLines (rest-judging at) (rest-calls at) (rest-frame at) place (lines (drop end (rest-body at)))
+
+    fits : LinesFit place end (rest-body at)
+    fits = subst (RestFits (rest-body at)) is-call (at .loop .inv .0)
+
+    called-kept : length (b .run-body .last .1 .0) ≡ length (start-of at .args .list .now)
+    called-kept = b .run-body .kept .1 .0 ∙ at .loop .inv .1
+
+  rest-same-length-3 : run-rest-lts.Need-same-length-3 (rest-claims t) (run-rest-at t) run-rest.Post Inv-loop μ-loop
+  rest-same-length-3 c = called-kept (c .before .before .before)
+
+  rest-returns-3 : run-rest-lts.Need-returns-3 (rest-claims t) (run-rest-at t) run-rest.Post Inv-loop μ-loop
+  rest-returns-3 c =
+      let b = c .before .before .before in
+      let given = c .enum-told2 .given in
+      rw (given .1) (leads-out (behind b) (status-as (given .1) (b .run-body .ensures)) (left-at (at b) (Stop.Call (number b) (end b) (place b)) (is-call b)))
+
+  rest-look-ahead-requires : run-rest-lts.Need-look-ahead-requires (rest-claims t) (run-rest-at t) run-rest.Post Inv-loop μ-loop
+  rest-look-ahead-requires c κs = fits (c .before .before .before)
+
+  rest-run-stretch-requires : run-rest-lts.Need-run-stretch-requires (rest-claims t) (run-rest-at t) run-rest.Post Inv-loop μ-loop
+  rest-run-stretch-requires c κs = (fits (c .before .before .before .before .before), c .before .look-ahead .ensures)
+
+  -- the next stretch is carried out
+  module _ (s : run-rest-lts.After-run-stretch (rest-claims t) (run-rest-at t) run-rest.Post Inv-loop μ-loop) where
+    abbrev called-at : run-rest-lts.After-run-body (rest-claims t) (run-rest-at t) run-rest.Post Inv-loop μ-loop
+    called-at = s .before .before .before .before .before .before
+
+    abbrev here : run-rest-lts.At-loop (rest-claims t) (run-rest-at t) run-rest.Post Inv-loop μ-loop
+    here = at called-at
+
+    abbrev after-call : Progress
+    after-call = called-at .run-body .result .progress
+
+    abbrev next : Stretched
+    next = stretch (rest-judging here) (rest-frame here) (end called-at) (place called-at) (lines (drop (end called-at) (rest-body here))) after-call
+
+    left-behind : Left here (called-at .run-body .last .1 .0) after-call (andThen (next .made) (rest (rest-judging here) (rest-calls here) (rest-frame here) (rest-body here) (next .stop)))
+    left-behind =
+        leads-as (lines-stretched (rest-judging here) (rest-calls here) (rest-frame here) (rest-body here) (end called-at) (place called-at) after-call)
+        (leads-on (rest-calls here (rest-frame here) (number called-at) (place called-at) (here .loop .now)) (behind called-at) (passed-as (s .before .before .before .enum-told3 .given .1) (called-at .run-body .ensures))
+        (left-at here (Stop.Call (number called-at) (end called-at) (place called-at)) (is-call called-at)))
+
+    next-kept : length (s .run-stretch .last .0) ≡ length (start-of here .args .list .now)
+    next-kept = s .run-stretch .kept .0 ∙ called-kept called-at
+
+    next-stops : Stops (rest-body here) (end called-at) (place called-at) (s .run-stretch .result .stop)
+    next-stops = subst (Stops (rest-body here) (end called-at) (place called-at)) (sym (s .run-stretch .ensures .stopped)) (stretch-stops (rest-body here) (rest-judging here) (rest-frame here) (end called-at) (place called-at) after-call)
+
+  rest-same-length-4 : run-rest-lts.Need-same-length-4 (rest-claims t) (run-rest-at t) run-rest.Post Inv-loop μ-loop
+  rest-same-length-4 c = next-kept (c .before .before .before .before .before .before .before)
+
+  rest-returns-4 : run-rest-lts.Need-returns-4 (rest-claims t) (run-rest-at t) run-rest.Post Inv-loop μ-loop
+  rest-returns-4 c =
+      let s = c .before .before .before .before .before .before .before in
+      let l = here s in
+      let given = c .before .before .status .given in
+      rw (c .refused2 .ensures) (leads-out (rest (rest-judging l) (rest-calls l) (rest-frame l) (rest-body l) (next s .stop)) (status-as (given .1) (s .run-stretch .ensures .ran)) (left-behind s))
+
+  loop-less : run-rest-lts.Need-loop-less (rest-claims t) (run-rest-at t) run-rest.Post Inv-loop μ-loop
+  loop-less c =
+      let s = c .before .before .before .before .before in
+      let b = called-at s in
+      omega (arith, ap (restSize (rest-body (here s))) (is-call b), size-call (rest-body (here s)) (number b) (end b) (place b), rest-less (rest-body (here s)) (end b) (place b) (s .run-stretch .result .stop) (next-stops s))
+
+  loop-again : run-rest-lts.Need-loop-again (rest-claims t) (run-rest-at t) run-rest.Post Inv-loop μ-loop
+  loop-again c =
+      let s = c .before .before .before .before .before in
+      let b = called-at s in
+      let l = here s in (
+        rest-fits (rest-body l) (end b) (place b) (s .run-stretch .result .stop) (fits b) (next-stops s),
+        next-kept s,
+        leads-as (ap (λ (x : Stop). rest (rest-judging l) (rest-calls l) (rest-frame l) (rest-body l) x (s .run-stretch .result .outcome .progress)) (sym (s .run-stretch .ensures .stopped)))
+            (leads-on (next s .made) (rest (rest-judging l) (rest-calls l) (rest-frame l) (rest-body l) (next s .stop)) (passed-as (c .enum-told4 .given .1) (s .run-stretch .ensures .ran)) (left-behind s)),
+      )
+
+-- ---- The body runner
+
+abbrev body-claims : ℕ → run-body-lts.Claims
+body-claims t = (
+  find-in-reads.Asked,
+  find-in-reads.Learnt,
+  refused-reads.Asked,
+  refused-reads.Learnt,
+  clip-reads.Asked,
+  clip-reads.Learnt,
+  look-ahead-reads.Asked,
+  look-ahead-reads.Learnt,
+  run-stretch-reads.Asked,
+  run-stretch-reads.Learnt,
+  is-end-reads.Asked,
+  is-end-reads.Learnt,
+  run-rest-below t,
+  run-rest.Post,
+)
+
+module _ (t : ℕ) where
+  -- what was handed in, the store as t6
+  abbrev handed : run-body-lts.After-find-in (body-claims t) (run-body-at t) run-body.Post → run-body-lts.Start (body-claims t) (run-body-at t) run-body.Post
+  handed f = f .before .before .before .before .before .before
+
+  body-returns : run-body-lts.Need-returns (body-claims t) (run-body-at t) run-body.Post
+  body-returns c =
+      let f = c .before .before .before in
+      let a = handed f .args in
+      let found = sym (f .find-in .ensures) ∙ c .before .enum-told .given .1 in
+      carried-refused (a .frame) (λ j. call j (bodiesOf (a .text .now) (a .t6)) (a .depth) (a .frame) (a .number) (a .line)) (c .refused .ensures)
+      (call-missing (limits (a .frame .job)) (bodiesOf (a .text .now) (a .t6)) (a .frame) (a .number) (a .line) (a .progress) (a .depth) (body-missing (a .text .now) (a .t6) (a .number) found))
+
+  -- the body is found
+  module _ (k : run-body-lts.After-known-told (body-claims t) (run-body-at t) run-body.Post) where
+    abbrev called : run-body-lts.Start (body-claims t) (run-body-at t) run-body.Post
+    called = handed (k .before .before .before)
+
+    abbrev start : ℕ
+    start = k .before .found .given .0 .0
+
+    abbrev stop : ℕ
+    stop = k .before .found .given .0 .1 .0
+
+    abbrev first : ℕ
+    first = k .before .found .given .0 .1 .1 .0
+
+    abbrev stored : Bodies
+    stored = bodiesOf (called .args .text .now) (called .args .t6)
+
+    abbrev found : Body
+    found = record { line = first; bytes = part (called .args .text .now) start stop }
+
+    is-stored : stored (called .args .number) ≡ some found
+    is-stored = body-found (called .args .text .now) (called .args .t6) (called .args .number) start stop first (sym (k .before .before .before .find-in .ensures) ∙ k .before .found .given .1)
+
+  body-returns-2 : run-body-lts.Need-returns-2 (body-claims t) (run-body-at t) run-body.Post
+  body-returns-2 c =
+      let k = c .before .before in
+      let a = called k .args in
+      carried-refused (a .frame) (λ j. call j (stored k) (a .depth) (a .frame) (a .number) (a .line)) (c .refused2 .ensures)
+      (call-deep (limits (a .frame .job)) (stored k) (a .frame) (a .number) (a .line) (a .progress) (a .depth) (found k) (is-stored k) (c .before .if1 .taken))
+
+  -- its ends are clipped to the text
+  module _ (c : run-body-lts.After-clip2 (body-claims t) (run-body-at t) run-body.Post) where
+    abbrev at-body : run-body-lts.After-known-told (body-claims t) (run-body-at t) run-body.Post
+    at-body = c .before .before .before
+
+    abbrev whole-text : List ℕ
+    whole-text = called at-body .args .text .now
+
+    abbrev from : ℕ
+    from = c .clip2 .result
+
+    abbrev to : ℕ
+    to = c .before .clip .result
+
+    to-is : to ≡ clipped (stop at-body) (length whole-text)
+    to-is = c .before .clip .ensures
+
+    from-is : from ≡ clipped (start at-body) (clipped (stop at-body) (length whole-text))
+    from-is = c .clip2 .ensures ∙ ap (clipped (start at-body)) to-is
+
+    ordered : from ≤ to
+    ordered = omega (arith, c .clip2 .ensures, clipped-within (start at-body) to .0)
+
+    inside : to ≤ length whole-text
+    inside = omega (arith, to-is, clipped-within (stop at-body) (length whole-text) .0)
+
+    is-part : take (to - from) (drop from whole-text) ≡ part whole-text (start at-body) (stop at-body)
+    is-part = ap₂ (λ (a b : ℕ). take (b - a) (drop a whole-text)) from-is to-is ∙ part-clipped whole-text (start at-body) (stop at-body)
+
+    -- one more call may be opened
+    opens : 0 < called at-body .args .depth
+    opens = let h = c .before .before .if1 .left in omega arith
+
+    -- the body, and the calls that it may open
+    abbrev body : List ℕ
+    body = take (to - from) (drop from whole-text)
+
+    abbrev judging : Judging
+    judging = limits (called at-body .args .frame .job)
+
+    abbrev further : Calls
+    further = call judging (stored at-body) (called at-body .args .depth - 1)
+
+    body-fits : LinesFit (first at-body) 0 body
+    body-fits = omega (arith, length-take (to - from) (drop from whole-text), inside, called at-body .good, at-body .known-told .given)
+
+    -- the call is the body, carried out
+    is-body :
+        call judging (stored at-body) (called at-body .args .depth) (called at-body .args .frame) (called at-body .args .number) (called at-body .args .line) (called at-body .args .progress)
+        ≡ runLines judging further (called at-body .args .frame) (first at-body) (lines body) (called at-body .args .progress)
+    unfolding runBody
+    is-body =
+        let a = called at-body .args in
+        call-body judging (stored at-body) (a .frame) (a .number) (a .line) (a .progress) (a .depth) (found at-body) (is-stored at-body) opens
+        ∙ ap (λ (b : List ℕ). runLines judging further (a .frame) (first at-body) (lines b) (a .progress)) (sym is-part)
+
+  sub-body : run-body-lts.Need-sub-body (body-claims t) (run-body-at t) run-body.Post
+  sub-body c = ordered c
+
+  part-body-start : run-body-lts.Need-part-body-start (body-claims t) (run-body-at t) run-body.Post
+  part-body-start c = ordered c
+
+  part-body-end : run-body-lts.Need-part-body-end (body-claims t) (run-body-at t) run-body.Post
+  part-body-end c = inside c
+
+  look-ahead-requires : run-body-lts.Need-look-ahead-requires (body-claims t) (run-body-at t) run-body.Post
+  look-ahead-requires c κs = body-fits (c .before)
+
+  run-stretch-requires : run-body-lts.Need-run-stretch-requires (body-claims t) (run-body-at t) run-body.Post
+  run-stretch-requires c κs = (body-fits (c .before .before .before), c .before .look-ahead .ensures)
+
+  -- its first stretch is carried out, and whether something follows is known
+  module _ (e : run-body-lts.After-is-end (body-claims t) (run-body-at t) run-body.Post) where
+    abbrev done : run-body-lts.After-run-stretch (body-claims t) (run-body-at t) run-body.Post
+    done = e .before .before
+
+    abbrev at-part : run-body-lts.After-clip2 (body-claims t) (run-body-at t) run-body.Post
+    at-part = done .before .before .before .before
+
+  body-returns-3 : run-body-lts.Need-returns-3 (body-claims t) (run-body-at t) run-body.Post
+  body-returns-3 c =
+      let e = c .before .before in
+      let x = at-part e in
+      rw (is-body x) (lines-over (further x) (body x) 0 (first (at-body x)) (done e .run-stretch .ensures) (sym (e .is-end .ensures) ∙ c .before .if2 .taken))
+
+  sub-run-rest : run-body-lts.Need-sub-run-rest (body-claims t) (run-body-at t) run-body.Post
+  sub-run-rest c = opens (at-part (c .before))
+
+  run-rest-requires : run-body-lts.Need-run-rest-requires (body-claims t) (run-body-at t) run-body.Post
+  run-rest-requires c κs =
+      let e = c .before .before in
+      let x = at-part e in
+      let m : 2 * called (at-body x) .args .depth ≡ t = called (at-body x) .pre .0 in
+      (omega (arith, opens x), left-fits (further x) (body x) 0 (first (at-body x)) (done e .run-stretch .ensures) (body-fits x))
+
+  body-returns-4 : run-body-lts.Need-returns-4 (body-claims t) (run-body-at t) run-body.Post
+  body-returns-4 c =
+      let e = c .before .before .before .before in
+      let x = at-part e in
+      rw (is-body x) (lines-left (further x) (body x) 0 (first (at-body x)) (done e .run-stretch .ensures) (sym (e .is-end .ensures) ∙ c .before .before .before .if2 .left) _ _ _ (c .before .run-rest .ensures))
+
+pub +run-body+run-rest-spec : {M : Type 1} → statement M
++run-body+run-rest-spec =
+    close μ-run-body μ-run-rest (λ t. run-body-lts.spec (body-claims t)
+    (run-body-at t)
+    run-body.Post
+    (λ c κs. search needs)
+    (λ c. search needs)
+    (λ c. search needs)
+    (λ c κs. search needs)
+    (body-returns t)
+    (λ c κs. search needs)
+    (body-returns-2 t)
+    (λ c κs. search needs)
+    (λ c κs. search needs)
+    (sub-body t)
+    (part-body-start t)
+    (part-body-end t)
+    (λ c. search needs)
+    (look-ahead-requires t)
+    (run-stretch-requires t)
+    (λ c κs. search needs)
+    (λ c. search needs)
+    (body-returns-3 t)
+    (sub-run-rest t)
+    (run-rest-requires t)
+    (λ c. search needs)
+    (body-returns-4 t))
+    λ t. run-rest-lts.spec (rest-claims t)
+    (run-rest-at t)
+    run-rest.Post
+    Inv-loop
+    μ-loop
+    (loop-holds t)
+    (λ c. search needs)
+    (λ c κs. search needs)
+    (rest-same-length t)
+    (rest-returns t)
+    (λ c. search needs)
+    (λ c κs. search needs)
+    (rest-same-length-2 t)
+    (rest-returns-2 t)
+    (λ c. search needs)
+    (run-body-requires t)
+    (λ c. search needs)
+    (rest-same-length-3 t)
+    (rest-returns-3 t)
+    (λ c. search needs)
+    (rest-look-ahead-requires t)
+    (rest-run-stretch-requires t)
+    (λ c. search needs)
+    (λ c κs. search needs)
+    (rest-same-length-4 t)
+    (rest-returns-4 t)
+    (λ c. search needs)
+    (loop-less t)
+    (loop-again t)

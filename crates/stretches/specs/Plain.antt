@@ -1,0 +1,32 @@
+-- Direct blocks that run a pattern, and plain ones, which leave the pattern memories as they are.
+use mathlib.Core.Bool.{Bool, true, false}
+use Rattle.aries.specs.declared.block.Direct.{Direct}
+use Rattle.aries.specs.declared.block.Direct.the-variants.{Lone, Punch, Move, PatternOrigin, RunPattern, Recall, Nibble, Idle}
+use Rattle.aries.specs.declared.state.Progress.{Progress}
+
+abbrev pub isPattern : Direct → Bool
+isPattern (RunPattern p tool memory) = true
+isPattern (Recall n) = true
+isPattern Lone = false
+isPattern (Punch a tool) = false
+isPattern (Move a tool) = false
+isPattern (PatternOrigin a) = false
+isPattern (Nibble on) = false
+isPattern Idle = false
+
+-- what is left, with the pattern memories of the progress before
+abbrev pub keeping : Progress → Progress → Progress
+keeping before left =
+    record {
+      state =
+          record {
+            current = left .state .current;
+            waiting = left .state .waiting;
+            incremental = left .state .incremental;
+            nibble = left .state .nibble;
+            tool = left .state .tool;
+            memories = before .state .memories;
+          };
+      blocks = left .blocks;
+      hits = left .hits;
+    }
