@@ -1,14 +1,15 @@
 /*
- * Expands a plate and prints its hits.
+ * Expands a plate and prints its hits as hitlist does.
  *
- * Without arguments the plate is a line of three holes; with the argument "-"
- * the program text is read from standard input. At the repository's root:
+ *     example         a line of three holes
+ *     example FILE    the program text in a file
+ *     example -       the program text on standard input
  *
- *     rt staticlib exported
- *     cc -std=c99 -O2 -Wall -Wextra -o target/example bindings/c/example.c target/staticlib/libexported.a
- *     target/example
- *     target/example - < plate.txt
+ * It ends with 0 if the text is accepted, with 1 if it is refused, and with 2
+ * if it can't be read or the hits can't be written. README.md has the commands
+ * that build it.
  */
+#include <errno.h>
 #include <inttypes.h>
 #include <stdio.h>
 #include <string.h>
@@ -17,7 +18,9 @@
 
 /* Places for 4,096 hits, and room for one byte more than a text may have. */
 #define LIST_LENGTH (4096 * TOLKJIRP_NUMBERS_PER_HIT)
-#define TEXT_LENGTH 60001
+#define TEXT_LENGTH (TOLKJIRP_LONGEST_TEXT + 1)
+
+enum status { IS_ACCEPTED = 0, IS_REFUSED = 1, HAS_FAILED = 2 };
 
 static const char plate[] =
     "G92 X600. Y600.\n"
@@ -28,13 +31,11 @@ static const char plate[] =
 static uint8_t text[TEXT_LENGTH];
 static int32_t list[LIST_LENGTH];
 
-/* Puts the program into the text and gives its length. */
-static size_t read_text(int is_from_input)
+/* Says what failed, and why. */
+static enum status fail(const char *what)
 {
-    if (is_from_input)
-        return fread(text, 1, sizeof text, stdin);
-    memcpy(text, plate, sizeof plate - 1);
-    return sizeof plate - 1;
+    fprintf(stderr, "example: %s: %s\n", what, strerror(errno));
+    return HAS_FAILED;
 }
 
 static void print_hits(uint64_t count)
@@ -48,17 +49,61 @@ static void print_hits(uint64_t count)
     }
 }
 
-int main(int argc, char **argv)
+static void print_refusal(uint64_t refusal, uint64_t line)
 {
-    int is_from_input = argc > 1 && strcmp(argv[1], "-") == 0;
-    size_t length = read_text(is_from_input);
+    printf("REFUSED %" PRIu64 " LINE %" PRIu64 "\n", refusal, line);
+    fprintf(stderr, "example: %s\n", tolkjirp_refusal_text(refusal));
+}
+
+/* Expands the first bytes of the text and prints the answer. */
+static enum status expand(size_t length)
+{
     uint64_t answer[3];
 
     tolkjirp_expand(text, length, list, LIST_LENGTH, answer);
-    if (answer[TOLKJIRP_REFUSAL] == 0)
+    if (answer[TOLKJIRP_REFUSAL] == TOLKJIRP_ACCEPTED)
         print_hits(answer[TOLKJIRP_COUNT]);
     else
-        printf("REFUSED %" PRIu64 " LINE %" PRIu64 "\n",
-               answer[TOLKJIRP_REFUSAL], answer[TOLKJIRP_LINE]);
-    return 0;
+        print_refusal(answer[TOLKJIRP_REFUSAL], answer[TOLKJIRP_LINE]);
+    if (fflush(stdout) != 0 || ferror(stdout))
+        return fail("the list is cut short");
+    return answer[TOLKJIRP_REFUSAL] == TOLKJIRP_ACCEPTED ? IS_ACCEPTED
+                                                         : IS_REFUSED;
+}
+
+/* Expands what a file has. */
+static enum status expand_file(FILE *file, const char *name)
+{
+    size_t length = fread(text, 1, sizeof text, file);
+
+    if (ferror(file))
+        return fail(name);
+    return expand(length);
+}
+
+/* Expands what the file of a name has. */
+static enum status expand_named(const char *name)
+{
+    FILE *file = fopen(name, "rb");
+    enum status status;
+
+    if (file == NULL)
+        return fail(name);
+    status = expand_file(file, name);
+    fclose(file);
+    return status;
+}
+
+int main(int argc, char **argv)
+{
+    if (argc == 1) {
+        memcpy(text, plate, sizeof plate - 1);
+        return expand(sizeof plate - 1);
+    }
+    if (argc == 2 && strcmp(argv[1], "-") == 0)
+        return expand_file(stdin, "standard input");
+    if (argc == 2 && argv[1][0] != '-')
+        return expand_named(argv[1]);
+    fprintf(stderr, "usage: example [FILE]   (- for standard input)\n");
+    return HAS_FAILED;
 }

@@ -1,8 +1,9 @@
 /*
  * Tolkjirp: from ARIES punch code to the list of hits.
  *
- * Link with libexported.a, which `rt staticlib exported` writes to
- * target/staticlib at the repository's root.
+ * Link with libtolkjirp.a, which `rt staticlib tolkjirp` writes to
+ * target/staticlib at the repository's root. It is for Linux on x86-64. The
+ * header is C99 and C++.
  */
 #ifndef TOLKJIRP_H
 #define TOLKJIRP_H
@@ -13,6 +14,12 @@
 #ifdef __cplusplus
 extern "C" {
 #endif
+
+/* The version of this header and of the library that it comes with. */
+#define TOLKJIRP_VERSION "0.2.0"
+
+/* The most bytes that a text may have; a longer one is refused. */
+#define TOLKJIRP_LONGEST_TEXT 60000
 
 /* How many numbers of the list a hit takes: X, Y, tool, mode. */
 #define TOLKJIRP_NUMBERS_PER_HIT 4
@@ -26,6 +33,73 @@ extern "C" {
 #define TOLKJIRP_COUNT 1   /* the count of hits; 0 if the text is refused */
 #define TOLKJIRP_LINE 2    /* the line of the refusal, from 1; 0 if the text is
                               accepted or its length is refused */
+
+/* The refusals, in the order of checking. docs/REFUSALS.md has what to do. */
+enum tolkjirp_refusal {
+    TOLKJIRP_ACCEPTED = 0,
+    TOLKJIRP_TEXT_LENGTH = 1,
+    TOLKJIRP_STRAY_BYTE = 2,
+    TOLKJIRP_TOO_MANY_BLOCKS = 3,
+    TOLKJIRP_WORD_FORM = 4,
+    TOLKJIRP_UNKNOWN_BLOCK = 5,
+    TOLKJIRP_NUMBER_RANGE = 6,
+    TOLKJIRP_WRONG_PLACE = 7,
+    TOLKJIRP_UNKNOWN_MACHINE = 8,
+    TOLKJIRP_UNMATCHED_MACRO = 9,
+    TOLKJIRP_NOTHING_STORED = 10,
+    TOLKJIRP_TOO_MANY_CALLS = 11,
+    TOLKJIRP_MACROS_FULL = 12,
+    TOLKJIRP_NO_LAYOUT = 13,
+    TOLKJIRP_NO_TOOL = 14,
+    TOLKJIRP_TOO_FAR = 15,
+    TOLKJIRP_OUT_OF_RANGE = 16,
+    TOLKJIRP_LIST_FULL = 17
+};
+
+/* A refusal in words, by its number. */
+static inline const char *tolkjirp_refusal_text(uint64_t refusal)
+{
+    switch (refusal) {
+    case TOLKJIRP_ACCEPTED:
+        return "the text is accepted";
+    case TOLKJIRP_TEXT_LENGTH:
+        return "the text is empty or has more than 60,000 bytes";
+    case TOLKJIRP_STRAY_BYTE:
+        return "a byte is not allowed in program texts";
+    case TOLKJIRP_TOO_MANY_BLOCKS:
+        return "more than 100,000 blocks would be carried out";
+    case TOLKJIRP_WORD_FORM:
+        return "a word is malformed";
+    case TOLKJIRP_UNKNOWN_BLOCK:
+        return "a code or a set of words is unknown";
+    case TOLKJIRP_NUMBER_RANGE:
+        return "a number is of the wrong kind or out of its range";
+    case TOLKJIRP_WRONG_PLACE:
+        return "a block stands in a wrong place or is missing";
+    case TOLKJIRP_UNKNOWN_MACHINE:
+        return "G92 names neither machine";
+    case TOLKJIRP_UNMATCHED_MACRO:
+        return "a U line and a V line don't match";
+    case TOLKJIRP_NOTHING_STORED:
+        return "nothing is stored under the number";
+    case TOLKJIRP_TOO_MANY_CALLS:
+        return "four calls are open already";
+    case TOLKJIRP_MACROS_FULL:
+        return "the macros would pass 3,100 characters";
+    case TOLKJIRP_NO_LAYOUT:
+        return "no G98 is in force";
+    case TOLKJIRP_NO_TOOL:
+        return "no tool is chosen";
+    case TOLKJIRP_TOO_FAR:
+        return "a place or a reach passes 9,999.99 mm";
+    case TOLKJIRP_OUT_OF_RANGE:
+        return "a place is outside the machine's range";
+    case TOLKJIRP_LIST_FULL:
+        return "the list has no place left for a hit";
+    default:
+        return "there is no such refusal";
+    }
+}
 
 /*
  * Expands a program text into a list of hits.
@@ -42,19 +116,23 @@ extern "C" {
  * After the call, the first 4 * answer[TOLKJIRP_COUNT] numbers of the list are
  * the hits in order and the others are zero; after a refusal all are zero.
  *
+ * With a length of 0 the pointer is not used, and may be null, as that of an
+ * empty std::vector: an empty text is refused by TOLKJIRP_TEXT_LENGTH, and an
+ * empty list has no place for a hit.
+ *
  * The caller ensures that
  * - text points to text_length readable bytes,
  * - list points to list_length writable numbers, and answer to three,
- * - no pointer is null, even if its length is 0, and list and answer are
- *   aligned for their types,
+ * - list and answer are aligned for their types,
  * - text, list and answer do not overlap,
  * - neither the text nor the list spans more than PTRDIFF_MAX bytes,
  * - no other thread uses the list or the answer, or changes the text, during
  *   the call.
  *
  * The function keeps no state: calls with lists and answers of their own may
- * run at the same time. It allocates nothing and uses less than 100 kB of the
- * stack.
+ * run at the same time. It allocates nothing. It uses up to 84 kB of the stack,
+ * whatever the text; that is measured and not proved, so a thread of its own
+ * should have 128 kB or more.
  */
 void tolkjirp_expand(const uint8_t *text, size_t text_length,
                      int32_t *list, size_t list_length,

@@ -11,16 +11,16 @@ fn main() {
     println!("cargo:rerun-if-changed=build.rs");
     println!("cargo:rerun-if-env-changed={FOLDER_VARIABLE}");
     let folder = library_folder();
-    let library = folder.join("libexported.a");
+    let library = folder.join("libtolkjirp.a");
     println!("cargo:rerun-if-changed={}", library.display());
     if !library.is_file() {
         eprintln!("{} is missing.", library.display());
-        eprintln!("Run `rt staticlib exported` at the repository's root,");
-        eprintln!("or set {FOLDER_VARIABLE} to the folder that has libexported.a.");
+        eprintln!("Run `rt staticlib tolkjirp` at the repository's root,");
+        eprintln!("or set {FOLDER_VARIABLE} to the folder that has libtolkjirp.a.");
         exit(1);
     }
     println!("cargo:rustc-link-search=native={}", folder.display());
-    println!("cargo:rustc-link-lib=static=exported");
+    println!("cargo:rustc-link-lib=static=tolkjirp");
     println!("cargo:library={}", library.display());
 }
 

@@ -8,7 +8,7 @@ use std::process::{exit, Command};
 const OLD_VARIABLE: &str = "TOLKJIRP_OLD_LIB";
 
 /// Names the library that the package `tolkjirp` links; its build script tells it.
-const NEW_VARIABLE: &str = "DEP_EXPORTED_LIBRARY";
+const NEW_VARIABLE: &str = "DEP_TOLKJIRP_LIBRARY";
 
 /// The function of a library.
 const FUNCTION: &str = "tolkjirp_expand";
@@ -30,9 +30,9 @@ fn main() {
 fn link_copy(library: &Path, ending: &str) {
     println!("cargo:rerun-if-changed={}", library.display());
     let folder = PathBuf::from(env::var_os("OUT_DIR").expect("cargo sets it"));
-    write_copy(library, &folder.join(format!("libexported_{ending}.a")), ending);
+    write_copy(library, &folder.join(format!("libtolkjirp_{ending}.a")), ending);
     println!("cargo:rustc-link-search=native={}", folder.display());
-    println!("cargo:rustc-link-lib=static=exported_{ending}");
+    println!("cargo:rustc-link-lib=static=tolkjirp_{ending}");
 }
 
 /// Writes a copy that can stand beside another: the library's function is renamed and nothing else is seen from
@@ -48,7 +48,7 @@ fn write_copy(library: &Path, copy: &Path, ending: &str) {
         .status();
     if !status.is_ok_and(|status| status.success()) {
         eprintln!("objcopy can't copy {}.", library.display());
-        eprintln!("{OLD_VARIABLE} is to be the full path of a libexported.a, and objcopy to be installed.");
+        eprintln!("{OLD_VARIABLE} is to be the full path of a libtolkjirp.a, and objcopy to be installed.");
         exit(1);
     }
 }

@@ -1,8 +1,11 @@
-//! Expands a plate and prints its hits: a tip rack of eight by twelve holes, twice on the sheet.
+//! Expands a plate and prints its hits: that of a file, or a tip rack of eight by twelve holes, twice on the sheet.
 
+use std::error::Error;
+use std::io::{self, BufWriter, Write};
 use std::process::ExitCode;
+use std::{env, fs};
 
-use tolkjirp::expand;
+use tolkjirp::{expand, Hit};
 
 const PLATE: &str = "\
 G92 X600. Y600.
@@ -16,17 +19,31 @@ G50
 ";
 
 fn main() -> ExitCode {
-    match expand(PLATE.as_bytes(), 4096) {
-        Ok(hits) => {
-            println!("HITS {}", hits.len());
-            for (index, hit) in hits.iter().enumerate() {
-                println!("{} {hit}", index + 1);
-            }
-            ExitCode::SUCCESS
-        }
-        Err(refused) => {
-            eprintln!("{refused}");
+    match run() {
+        Ok(()) => ExitCode::SUCCESS,
+        Err(error) => {
+            eprintln!("plate: {error}");
             ExitCode::FAILURE
         }
     }
+}
+
+fn run() -> Result<(), Box<dyn Error>> {
+    let mut words = env::args_os().skip(1);
+    let text = match (words.next(), words.next()) {
+        (None, _) => PLATE.as_bytes().to_vec(),
+        (Some(name), None) => fs::read(name)?,
+        _ => return Err("usage: plate [FILE]".into()),
+    };
+    print_hits(&expand(&text, 4096)?)?;
+    Ok(())
+}
+
+fn print_hits(hits: &[Hit]) -> io::Result<()> {
+    let mut out = BufWriter::new(io::stdout().lock());
+    writeln!(out, "HITS {}", hits.len())?;
+    for (index, hit) in hits.iter().enumerate() {
+        writeln!(out, "{} {hit}", index + 1)?;
+    }
+    out.flush()
 }

@@ -1,6 +1,8 @@
 //! Hits.
 
 use std::fmt;
+use std::iter::FusedIterator;
+use std::slice::ChunksExact;
 
 /// How many numbers of the list a hit takes.
 pub const NUMBERS_PER_HIT: usize = 4;
@@ -41,6 +43,44 @@ impl Hit {
         }
     }
 }
+
+/// The hits in a list, one after the other.
+#[derive(Clone, Debug)]
+pub struct Hits<'a> {
+    numbers: ChunksExact<'a, i32>,
+}
+
+impl<'a> Hits<'a> {
+    /// The first so many hits of a list that has them.
+    pub(crate) fn first(list: &'a [i32], count: usize) -> Hits<'a> {
+        let numbers = &list[..NUMBERS_PER_HIT * count];
+        Hits {
+            numbers: numbers.chunks_exact(NUMBERS_PER_HIT),
+        }
+    }
+}
+
+impl Iterator for Hits<'_> {
+    type Item = Hit;
+
+    fn next(&mut self) -> Option<Hit> {
+        self.numbers.next().map(Hit::from_numbers)
+    }
+
+    fn size_hint(&self) -> (usize, Option<usize>) {
+        self.numbers.size_hint()
+    }
+}
+
+impl DoubleEndedIterator for Hits<'_> {
+    fn next_back(&mut self) -> Option<Hit> {
+        self.numbers.next_back().map(Hit::from_numbers)
+    }
+}
+
+impl ExactSizeIterator for Hits<'_> {}
+
+impl FusedIterator for Hits<'_> {}
 
 impl fmt::Display for Mode {
     /// The letter of the mode: P or N.

@@ -9,38 +9,56 @@
 //! let hits = expand(text, 4096)?;
 //! assert_eq!(hits.len(), 3);
 //! assert_eq!(hits[1], Hit { x: 10707, y: 10707, tool: 2, mode: Mode::Punch });
-//! # Ok::<(), tolkjirp::Refused>(())
+//! # Ok::<(), tolkjirp::Failure>(())
 //! ```
+//!
+//! The library keeps no state, so threads may call it at the same time. A call uses up to 84 kB of the stack, whatever
+//! the text; that is measured and not proved, so a thread of its own should have 128 kB or more.
 
+mod failure;
 mod hit;
 mod library;
 mod refusal;
 
-pub use hit::{Hit, Mode, NUMBERS_PER_HIT};
+pub use failure::Failure;
+pub use hit::{Hit, Hits, Mode, NUMBERS_PER_HIT};
 pub use refusal::{NoSuchRefusal, Refusal, Refused};
+
+/// The most bytes that a text may have; a longer one is refused.
+pub const LONGEST_TEXT: usize = 60_000;
 
 /// Expands a program text, with places for so many hits.
 ///
+/// Fails if the text is refused, or if the memory for so many places can't be had.
+///
 /// ```
-/// use tolkjirp::{expand, Refusal};
+/// use tolkjirp::{expand, Failure, Refusal, Refused};
 ///
-/// let refused = expand(b"G92 X600. Y600.\nX10. T2\nY10.\nG50\n", 1).unwrap_err();
-/// assert_eq!(refused.refusal, Refusal::ListFull);
-/// assert_eq!(refused.to_string(), "refusal 17 in line 3: the list has no place left for a hit");
+/// let failure = expand(b"G92 X600. Y600.\nX10. T2\nY10.\nG50\n", 1).unwrap_err();
+/// assert_eq!(failure, Failure::Refused(Refused { refusal: Refusal::ListFull, line: 3 }));
+/// assert_eq!(failure.to_string(), "refusal 17 in line 3: the list has no place left for a hit");
+///
+/// assert_eq!(expand(b"G92 X600. Y600.\nG50\n", usize::MAX), Err(Failure::NoMemory));
 /// ```
-///
-/// # Panics
-///
-/// Panics if a list for so many hits can't be allocated.
-pub fn expand(text: &[u8], places: usize) -> Result<Vec<Hit>, Refused> {
-    let length = places.checked_mul(NUMBERS_PER_HIT);
-    let mut list = vec![0; length.expect("too many places for a list")];
-    let count = expand_into(text, &mut list)?;
-    let numbers = &list[..NUMBERS_PER_HIT * count];
-    Ok(numbers.chunks_exact(NUMBERS_PER_HIT).map(Hit::from_numbers).collect())
+pub fn expand(text: &[u8], places: usize) -> Result<Vec<Hit>, Failure> {
+    let mut list = zeros(places)?;
+    let hits = expand_into(text, &mut list)?;
+    let mut taken = Vec::new();
+    taken.try_reserve_exact(hits.len()).map_err(|_| Failure::NoMemory)?;
+    taken.extend(hits);
+    Ok(taken)
 }
 
-/// Expands a program text into a lent list, and gives the count of hits; nothing is allocated.
+/// A list with places for so many hits.
+fn zeros(places: usize) -> Result<Vec<i32>, Failure> {
+    let length = places.checked_mul(NUMBERS_PER_HIT).ok_or(Failure::NoMemory)?;
+    let mut list = Vec::new();
+    list.try_reserve_exact(length).map_err(|_| Failure::NoMemory)?;
+    list.resize(length, 0);
+    Ok(list)
+}
+
+/// Expands a program text into a lent list, and gives the hits in it; nothing is allocated.
 ///
 /// A hit takes four numbers: X, Y, tool and mode (0 punching, 1 nibbling). The numbers after the hits, and after a
 /// refusal all numbers, are zero. Fewer than four numbers at the end of the list are no place for a hit.
@@ -49,18 +67,23 @@ pub fn expand(text: &[u8], places: usize) -> Result<Vec<Hit>, Refused> {
 /// use tolkjirp::{expand_into, Refusal};
 ///
 /// let mut list = [-1; 6];
-/// assert_eq!(expand_into(b"G92 X600. Y600.\nX10. T2\nG50", &mut list), Ok(1));
+/// let hits = expand_into(b"G92 X600. Y600.\nX10. T2\nG50", &mut list)?;
+/// assert_eq!(hits.len(), 1);
+/// for hit in hits {
+///     assert_eq!((hit.x, hit.y, hit.tool), (1000, 60000, 2));
+/// }
 /// assert_eq!(list, [1000, 60000, 2, 0, 0, 0]);
 ///
 /// let refused = expand_into(b"G92 X600. Y600.\nX10.\nG50", &mut list).unwrap_err();
-/// assert_eq!((refused.refusal, refused.line()), (Refusal::NoTool, 2));
+/// assert_eq!((refused.refusal, refused.line), (Refusal::NoTool, 2));
 /// assert_eq!(list, [0; 6]);
+/// # Ok::<(), tolkjirp::Refused>(())
 /// ```
-pub fn expand_into(text: &[u8], list: &mut [i32]) -> Result<usize, Refused> {
+pub fn expand_into<'a>(text: &[u8], list: &'a mut [i32]) -> Result<Hits<'a>, Refused> {
     let most = list.len() / NUMBERS_PER_HIT;
     match library::call(text, list) {
         [0, count, 0] => match usize::try_from(count) {
-            Ok(count) if count <= most => Ok(count),
+            Ok(count) if count <= most => Ok(Hits::first(list, count)),
             _ => panic!("the library counts {count} hits in a list for {most}"),
         },
         [number, 0, line] => Err(Refused::from_numbers(number, line)),

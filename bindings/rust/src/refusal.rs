@@ -2,7 +2,6 @@
 
 use std::error::Error;
 use std::fmt;
-use std::num::NonZeroU64;
 
 /// Why a program is refused. The value of a variant is the number of the refusal; the order is that of checking.
 #[derive(Clone, Copy, Debug, PartialEq, Eq, PartialOrd, Ord, Hash)]
@@ -127,8 +126,8 @@ impl TryFrom<u8> for Refusal {
 pub struct Refused {
     /// Why the program is refused.
     pub refusal: Refusal,
-    /// The line, from 1; none if the length of the text is refused.
-    pub line: Option<NonZeroU64>,
+    /// The line, from 1; 0 if the length of the text is refused.
+    pub line: u64,
 }
 
 impl Refused {
@@ -138,25 +137,17 @@ impl Refused {
             .ok()
             .and_then(|number| Refusal::try_from(number).ok());
         match refusal {
-            Some(refusal) if (refusal == Refusal::TextLength) == (line == 0) => Refused {
-                refusal,
-                line: NonZeroU64::new(line),
-            },
+            Some(refusal) if (refusal == Refusal::TextLength) == (line == 0) => Refused { refusal, line },
             _ => panic!("the library gives refusal {number} in line {line}"),
         }
-    }
-
-    /// The line as a number, 0 if there is none.
-    pub fn line(&self) -> u64 {
-        self.line.map_or(0, NonZeroU64::get)
     }
 }
 
 impl fmt::Display for Refused {
     fn fmt(&self, f: &mut fmt::Formatter) -> fmt::Result {
         write!(f, "refusal {}", self.refusal.number())?;
-        if let Some(line) = self.line {
-            write!(f, " in line {line}")?;
+        if self.line != 0 {
+            write!(f, " in line {}", self.line)?;
         }
         write!(f, ": {}", self.refusal)
     }

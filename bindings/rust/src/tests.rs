@@ -5,9 +5,17 @@ fn program(blocks: &str) -> Vec<u8> {
     format!("G92 X600. Y600.\n{blocks}\nG50\n").into_bytes()
 }
 
+/// The refusal of a text, with places for so many hits.
+fn refused(text: &[u8], places: usize) -> Refused {
+    match expand(text, places) {
+        Err(Failure::Refused(refused)) => refused,
+        answer => panic!("{answer:?}"),
+    }
+}
+
 fn refusal(blocks: &str) -> (u8, u64) {
-    let refused = expand(&program(blocks), 4096).unwrap_err();
-    (refused.refusal.number(), refused.line())
+    let refused = refused(&program(blocks), 4096);
+    (refused.refusal.number(), refused.line)
 }
 
 #[test]
@@ -72,10 +80,10 @@ fn refusals_give_number_and_line() {
 
 #[test]
 fn a_text_of_wrong_length_has_no_line() {
-    for text in [&b""[..], &[b' '; 60_001]] {
-        let refused = expand(text, 1).unwrap_err();
+    for text in [&b""[..], &[b' '; LONGEST_TEXT + 1]] {
+        let refused = refused(text, 1);
         assert_eq!(refused.refusal, Refusal::TextLength);
-        assert_eq!(refused.line, None);
+        assert_eq!(refused.line, 0);
         assert_eq!(
             refused.to_string(),
             "refusal 1: the text is empty or has more than 60,000 bytes"
@@ -85,7 +93,7 @@ fn a_text_of_wrong_length_has_no_line() {
 
 #[test]
 fn empty_lists_are_allowed() {
-    assert_eq!(expand_into(&program(""), &mut []), Ok(0));
+    assert_eq!(expand_into(&program(""), &mut []).unwrap().len(), 0);
     let refused = expand_into(&program("X1. T2"), &mut []).unwrap_err();
     assert_eq!(refused.refusal, Refusal::ListFull);
 }
@@ -93,11 +101,82 @@ fn empty_lists_are_allowed() {
 #[test]
 fn the_rest_of_the_list_is_zero() {
     let mut list = [-1; 11];
-    assert_eq!(expand_into(&program("X1. Y2. T3"), &mut list), Ok(1));
+    assert_eq!(expand_into(&program("X1. Y2. T3"), &mut list).unwrap().len(), 1);
     assert_eq!(list, [100, 200, 3, 0, 0, 0, 0, 0, 0, 0, 0]);
     let mut list = [-1; 7];
     assert!(expand_into(&program("X1. Y2. T3\nX2."), &mut list).is_err());
     assert_eq!(list, [0; 7]);
+}
+
+#[test]
+fn hits_are_read_from_the_list() {
+    let mut list = [-1; 14];
+    let hits = expand_into(&program("X1. Y2. T3\nM12\nX4."), &mut list).unwrap();
+    assert_eq!(hits.len(), 2);
+    let first = Hit {
+        x: 100,
+        y: 200,
+        tool: 3,
+        mode: Mode::Punch,
+    };
+    let second = Hit {
+        x: 400,
+        mode: Mode::Nibble,
+        ..first
+    };
+    assert_eq!(hits.clone().collect::<Vec<_>>(), [first, second]);
+    assert_eq!(hits.rev().collect::<Vec<_>>(), [second, first]);
+}
+
+#[test]
+fn a_list_that_no_memory_holds_is_an_error() {
+    for places in [usize::MAX, usize::MAX / 4, isize::MAX as usize / 16, 1 << 44] {
+        assert_eq!(expand(&program(""), places), Err(Failure::NoMemory));
+    }
+}
+
+#[test]
+fn a_thread_of_128_kb_is_enough() {
+    let nested = "U60\nG28 I1. J185. K3 T2\nW60\nV60\nW60";
+    let thread = std::thread::Builder::new().stack_size(128_000);
+    let run = move || {
+        let mut list = [0; 64];
+        let refused = expand_into(&program(nested), &mut list).unwrap_err();
+        (refused.refusal, refused.line)
+    };
+    assert_eq!(thread.spawn(run).unwrap().join().unwrap(), (Refusal::TooManyCalls, 4));
+}
+
+/// The header for C, which says some things once more.
+const HEADER: &str = include_str!("../../c/tolkjirp.h");
+
+#[test]
+fn the_header_has_the_same_refusals() {
+    for refusal in Refusal::ALL {
+        let name = capitals(&format!("{refusal:?}"));
+        assert!(
+            HEADER.contains(&format!("    TOLKJIRP_{name} = {}", refusal.number())),
+            "{name}"
+        );
+        let case = format!("case TOLKJIRP_{name}:\n        return \"{refusal}\";");
+        assert!(HEADER.contains(&case), "{case}");
+    }
+}
+
+/// A name such as TextLength as TEXT_LENGTH.
+fn capitals(name: &str) -> String {
+    let parted = name.chars().enumerate().flat_map(|(place, letter)| {
+        let line = (place > 0 && letter.is_uppercase()).then_some('_');
+        line.into_iter().chain([letter.to_ascii_uppercase()])
+    });
+    parted.collect()
+}
+
+#[test]
+fn the_header_has_the_same_version_and_longest_text() {
+    let version = env!("CARGO_PKG_VERSION");
+    assert!(HEADER.contains(&format!("#define TOLKJIRP_VERSION \"{version}\"\n")));
+    assert!(HEADER.contains(&format!("#define TOLKJIRP_LONGEST_TEXT {LONGEST_TEXT}\n")));
 }
 
 #[test]

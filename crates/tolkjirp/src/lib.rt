@@ -1,4 +1,6 @@
 // The expander of ARIES punch code: from a program text to its list of hits.
+pub mod exported; // the entry for C and Rust
+
 use aries::answer::Answer;
 use aries::job::Job;
 use aries::job::NUMBERS;

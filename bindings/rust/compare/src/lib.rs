@@ -1,5 +1,6 @@
 //! Compares the proved expander with the plain one: texts to try, and the comparison of two answers.
 
+pub mod arguments;
 pub mod clock;
 pub mod damage;
 pub mod libraries;

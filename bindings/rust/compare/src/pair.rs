@@ -33,15 +33,15 @@ pub const PLAIN: Expander = Expander {
 /// What the proved library answers.
 pub fn library(text: &[u8], list: &mut [i32]) -> Answer {
     match tolkjirp::expand_into(text, list) {
-        Ok(count) => Answer {
+        Ok(hits) => Answer {
             number: 0,
-            count,
+            count: hits.len(),
             line: 0,
         },
         Err(refused) => Answer {
             number: refused.refusal.number(),
             count: 0,
-            line: refused.line(),
+            line: refused.line,
         },
     }
 }

@@ -7,6 +7,7 @@ use std::hint::black_box;
 use std::process::ExitCode;
 use std::time::Duration;
 
+use compare::arguments::rounds_and_word;
 use compare::clock::thread_time;
 use compare::libraries::NEW_AND_OLD;
 use compare::pair::{Answer, Difference, Expander, Pair, LIBRARY, PLAIN};
@@ -20,7 +21,14 @@ const SHORTEST: Duration = Duration::from_millis(1);
 const USUAL_ROUNDS: usize = 31;
 
 fn main() -> ExitCode {
-    let (rounds, word) = arguments();
+    let words: Vec<_> = env::args().skip(1).collect();
+    let (rounds, word) = match rounds_and_word(&words, USUAL_ROUNDS) {
+        Ok(arguments) => arguments,
+        Err(reason) => {
+            eprintln!("bench: {reason}\nusage: bench [ROUNDS] [WORD]");
+            return ExitCode::from(2);
+        }
+    };
     let mut workloads = workloads();
     workloads.retain(|workload| workload.name.contains(&word));
     if workloads.is_empty() {
@@ -39,18 +47,6 @@ fn main() -> ExitCode {
         }
     }
     ExitCode::SUCCESS
-}
-
-/// The rounds and the word; a whole number is the one, anything else the other.
-fn arguments() -> (usize, String) {
-    let (mut rounds, mut word) = (USUAL_ROUNDS, String::new());
-    for argument in env::args().skip(1) {
-        match argument.parse() {
-            Ok(number) => rounds = number,
-            Err(_) => word = argument,
-        }
-    }
-    (rounds.max(1), word)
 }
 
 /// The expanders to measure: the library, the plain one, and the older library if there is one.

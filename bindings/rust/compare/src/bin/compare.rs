@@ -1,10 +1,12 @@
 //! Compares the proved library with the plain expander on texts made by numbers.
 //!
-//! `compare [COUNT] [SEED]` tries texts SEED to SEED + COUNT - 1.
+//! `compare [COUNT [SEED]]` tries texts SEED to SEED + COUNT - 1. It ends with 1 at a difference, with 2 if its arguments
+//! are wrong.
 
 use std::env;
 use std::process::ExitCode;
 
+use compare::arguments::seeds;
 use compare::pair::{Answer, Difference, Pair};
 use compare::random::Random;
 use compare::samples::sample;
@@ -24,11 +26,17 @@ struct Tally {
 }
 
 fn main() -> ExitCode {
-    let count = argument(1, 1_000_000);
-    let seed = argument(2, 1);
+    let words: Vec<_> = env::args().skip(1).collect();
+    let seeds = match seeds(&words) {
+        Ok(seeds) => seeds,
+        Err(reason) => {
+            eprintln!("compare: {reason}\nusage: compare [COUNT [SEED]]");
+            return ExitCode::from(2);
+        }
+    };
     let mut pair = Pair::new(LONG_LENGTH);
     let mut tally = Tally::default();
-    for seed in seed..seed + count {
+    for seed in seeds {
         if let Err(difference) = try_text(&mut pair, &mut tally, seed) {
             println!("{}rerun   compare 1 {seed}", difference.describe());
             return ExitCode::FAILURE;
@@ -37,13 +45,6 @@ fn main() -> ExitCode {
     tally.print();
     println!("no difference");
     ExitCode::SUCCESS
-}
-
-fn argument(place: usize, usual: u64) -> u64 {
-    match env::args().nth(place) {
-        Some(word) => word.parse().expect("arguments are whole numbers"),
-        None => usual,
-    }
 }
 
 /// Compares the answers for one text and several lengths of the list.

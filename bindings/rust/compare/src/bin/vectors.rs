@@ -1,7 +1,7 @@
-//! Runs the examples of a folder through both expanders.
+//! Runs golden cases through both expanders.
 //!
-//! `vectors FOLDER` expands each NAME.txt with places for 4,096 hits and compares with NAME.expected, which has the
-//! lines that the program `hitlist` prints.
+//! `vectors [FOLDER]` takes a folder like `crates/cases`, which is the one if nothing is said: `stdout` has for each case
+//! a line with the name of a text in `data` and the length of the list, and then what the program `hitlist` prints.
 
 use std::fmt::Write;
 use std::path::{Path, PathBuf};
@@ -10,40 +10,91 @@ use std::{env, fs};
 
 use compare::pair::{library, plain, Answer};
 
-/// The numbers of a list with places for 4,096 hits.
-const LIST_LENGTH: usize = 16_384;
+/// The golden cases of the repository.
+const CASES: &str = concat!(env!("CARGO_MANIFEST_DIR"), "/../../../crates/cases");
+
+/// A case: the text's name, the length of the list, and the lines of the listing.
+struct Case {
+    name: String,
+    length: usize,
+    listing: String,
+}
 
 fn main() -> ExitCode {
-    let folder = env::args().nth(1).expect("a folder is to be named");
-    let texts = text_files(Path::new(&folder));
-    let wrong: Vec<_> = texts.iter().filter(|path| !is_right(path)).collect();
-    for path in &wrong {
-        println!("{} differs", path.display());
+    let words: Vec<_> = env::args_os().skip(1).collect();
+    let folder = match &words[..] {
+        [] => PathBuf::from(CASES),
+        [folder] => PathBuf::from(folder),
+        _ => return fail("usage: vectors [FOLDER]"),
+    };
+    match run(&folder) {
+        Ok((_, 0)) => ExitCode::SUCCESS,
+        Ok(_) => ExitCode::FAILURE,
+        Err(reason) => fail(&reason),
     }
-    println!("{} examples, {} differ", texts.len(), wrong.len());
-    if texts.is_empty() || !wrong.is_empty() {
-        return ExitCode::FAILURE;
-    }
-    ExitCode::SUCCESS
 }
 
-fn text_files(folder: &Path) -> Vec<PathBuf> {
-    let entries = fs::read_dir(folder).expect("the folder is readable");
-    let mut paths: Vec<_> = entries
-        .map(|entry| entry.expect("the folder is readable").path())
-        .filter(|path| path.extension().is_some_and(|extension| extension == "txt"))
-        .collect();
-    paths.sort();
-    paths
+fn fail(reason: &str) -> ExitCode {
+    eprintln!("vectors: {reason}");
+    ExitCode::from(2)
 }
 
-fn is_right(path: &Path) -> bool {
-    let text = fs::read(path).expect("the text is readable");
-    let expected = fs::read_to_string(path.with_extension("expected")).expect("it is readable");
+/// How many cases there are and how many differ, of which each is named.
+fn run(folder: &Path) -> Result<(usize, usize), String> {
+    let stored = folder.join("stdout");
+    let listings = fs::read_to_string(&stored).map_err(|error| format!("{}: {error}", stored.display()))?;
+    let cases = cases(&listings)?;
+    let mut wrong = 0;
+    for case in &cases {
+        let path = folder.join("data").join(&case.name);
+        let text = fs::read(&path).map_err(|error| format!("{}: {error}", path.display()))?;
+        if !is_right(case, &text) {
+            println!("{} {} differs", case.name, case.length);
+            wrong += 1;
+        }
+    }
+    println!("{} cases, {wrong} differ", cases.len());
+    Ok((cases.len(), wrong))
+}
+
+/// The cases of stored listings, of which there is at least one.
+fn cases(listings: &str) -> Result<Vec<Case>, String> {
+    // an argument that is no length has a line without a listing
+    let mut lines = listings.lines().filter(|line| !line.ends_with(" NO LENGTH"));
+    let mut cases = Vec::new();
+    while let Some(title) = lines.next() {
+        cases.push(case(title, &mut lines).ok_or(format!("no case: {title:?}"))?);
+    }
+    if cases.is_empty() {
+        return Err("there are no cases".to_string());
+    }
+    Ok(cases)
+}
+
+/// The case of a title and the lines behind it.
+fn case<'a>(title: &str, lines: &mut impl Iterator<Item = &'a str>) -> Option<Case> {
+    let (name, length) = title.split_once(' ')?;
+    let head = lines.next()?;
+    let count = match head.strip_prefix("HITS ") {
+        Some(count) => count.parse().ok()?,
+        None => 0,
+    };
+    let mut listing = format!("{head}\n");
+    for line in lines.take(count) {
+        writeln!(listing, "{line}").expect("a string takes all");
+    }
+    Some(Case {
+        name: name.to_string(),
+        length: length.parse().ok()?,
+        listing,
+    })
+}
+
+fn is_right(case: &Case, text: &[u8]) -> bool {
     [library, plain].iter().all(|expand| {
-        let mut list = vec![-1; LIST_LENGTH];
-        let answer = expand(&text, &mut list);
-        hit_list(answer, &list) == expected
+        let mut list = vec![-1; case.length];
+        let answer = expand(text, &mut list);
+        hit_list(answer, &list) == case.listing
     })
 }
 

@@ -1,0 +1,44 @@
+/*
+ * Empty texts and lists as C++ has them: the data of an empty vector may be
+ * null. Prints what is wrong, and ends with 1 then.
+ */
+#include <cstdio>
+#include <cstring>
+#include <vector>
+
+#include "tolkjirp.h"
+
+static bool is_wrong = false;
+
+/* Expands a text into a list and holds the answer to three numbers. */
+static void expect(const char *what, const std::vector<uint8_t> &text,
+                   std::vector<int32_t> list, uint64_t refusal,
+                   uint64_t count, uint64_t line)
+{
+    const uint64_t expected[3] = {refusal, count, line};
+    uint64_t answer[3] = {99, 99, 99};
+
+    tolkjirp_expand(text.data(), text.size(), list.data(), list.size(), answer);
+    if (std::memcmp(answer, expected, sizeof answer) != 0) {
+        std::printf("%s: %s\n", what, tolkjirp_refusal_text(answer[0]));
+        is_wrong = true;
+    }
+}
+
+static std::vector<uint8_t> bytes(const char *text)
+{
+    return std::vector<uint8_t>(text, text + std::strlen(text));
+}
+
+int main()
+{
+    const std::vector<uint8_t> no_hit = bytes("G92X600.Y600.\nG50\n");
+    const std::vector<uint8_t> one_hit = bytes("G92X600.Y600.\nX1T1\nG50\n");
+
+    expect("both empty", {}, {}, TOLKJIRP_TEXT_LENGTH, 0, 0);
+    expect("no text", {}, {7, 7, 7, 7}, TOLKJIRP_TEXT_LENGTH, 0, 0);
+    expect("no list, no hit", no_hit, {}, TOLKJIRP_ACCEPTED, 0, 0);
+    expect("no list, a hit", one_hit, {}, TOLKJIRP_LIST_FULL, 0, 2);
+    expect("a hit", one_hit, {7, 7, 7, 7}, TOLKJIRP_ACCEPTED, 1, 0);
+    return is_wrong;
+}

@@ -1,0 +1,62 @@
+#!/bin/sh
+# Runs the commands of the bindings' READMEs and compares what they print; ends with 1 at the first that is wrong. It
+# needs what `rt check hitlist` and `rt staticlib tolkjirp` make, a C and a C++ compiler, and cargo.
+cd "$(dirname "$0")/.." || exit 1
+library=target/staticlib/libtolkjirp.a
+for needed in target/bin/hitlist "$library"; do
+    [ -e "$needed" ] || { echo "$needed is missing: run rt check hitlist && rt staticlib tolkjirp"; exit 1; }
+done
+out=$(mktemp -d) || exit 1
+trap 'rm -rf "$out"' EXIT
+
+fail() {
+    echo "wrong: $1"
+    exit 1
+}
+
+# Runs a command, whose status has to be the one named first.
+ends() {
+    expected=$1
+    shift
+    "$@" >"$out/printed" 2>"$out/said"
+    status=$?
+    [ $status -eq "$expected" ] || { cat "$out/printed" "$out/said"; fail "$* ends with $status, not $expected"; }
+}
+
+# ---- C and C++
+ends 0 cc -std=c99 -O2 -Wall -Wextra -Werror -pedantic -o target/example bindings/c/example.c "$library"
+ends 0 c++ -std=c++11 -O2 -Wall -Wextra -Werror -pedantic -o "$out/empty" bindings/c/empty.cpp "$library"
+ends 0 "$out/empty"
+ends 0 target/example
+for plate in plates/*.nc; do
+    target/bin/hitlist <"$plate" >"$out/hits"
+    ends 0 target/example "$plate"
+    cmp -s "$out/hits" "$out/printed" || fail "$plate by name"
+    target/example - <"$plate" | cmp -s "$out/hits" - || fail "$plate from standard input"
+done
+printf 'G92X600.Y600.\nX-11.T1\nG50\n' >"$out/refused.nc"
+ends 1 target/example "$out/refused.nc"
+grep -q '^REFUSED 16 LINE 2$' "$out/printed" || fail "a refusal"
+for words in no-such-file plates --help -x; do
+    ends 2 target/example "$words"
+    [ -s "$out/said" ] && [ ! -s "$out/printed" ] || fail "target/example $words says nothing, or prints"
+done
+ends 2 target/example one two
+ends 2 sh -c 'target/example >/dev/full'
+ends 2 sh -c 'target/example - <&-'
+echo "C and C++: as documented"
+
+# ---- Rust
+cd bindings/rust || exit 1
+ends 0 cargo test --offline
+ends 0 cargo run --offline --example plate
+ends 0 cargo run --offline --example plate -- ../../plates/tip-rack.nc
+ends 1 cargo run --offline --example plate -- "$out/refused.nc"
+ends 1 cargo run --offline --example plate -- no-such-file
+ends 0 cargo run --offline --release --bin compare -- 10000 1
+ends 2 cargo run --offline --release --bin compare -- 0
+ends 2 cargo run --offline --release --bin compare -- 2 18446744073709551615
+ends 0 cargo run --offline --release --bin vectors
+ends 0 cargo run --offline --release --bin bench -- 1 "small plate"
+ends 2 cargo run --offline --release --bin bench -- 0
+echo "Rust: as documented"

@@ -1,0 +1,23 @@
+-- The three numbers of either answer. Assumes nothing.
+use borrow.Author.Needs.{needs}
+use Rattle.tolkjirp.proofs.exported.three_numbers.Statement.{statement}
+use Rattle.tolkjirp.proofs.exported.three_numbers.Tie as tie
+
+enum-known-answer : tie.Need-enum-known-answer
+enum-known-answer c = search needs
+
+enum-known-answer-2 : tie.Need-enum-known-answer-2
+enum-known-answer-2 c = search needs
+
+cast-t7 : tie.Need-cast-t7
+cast-t7 c = search needs
+
+returns : tie.Need-returns
+returns c = rw (c .before .answer .given .1)
+
+returns-2 : tie.Need-returns-2
+returns-2 c = rw (c .before .answer2 .given .1)
+
+pub three-numbers-spec : {M : Type 1} → statement M
+three-numbers-spec =
+    tie.close (tie.spec enum-known-answer enum-known-answer-2 cast-t7 returns returns-2)

@@ -1,0 +1,18 @@
+-- What the exported expander promises: three numbers for the answer, and the lent list, against the definitions.
+use mathlib.Core.Path.{_≡_}
+use mathlib.Core.List.{List, [], _∷_}
+use Prim.Native.Nat.{ℕ}
+use lib.IntN.{ℤ}
+use Rattle.aries.specs.declared.answer.Answer.{Answer}
+use Rattle.aries.specs.Outcome.{Out}
+use Rattle.aries.specs.Hits.{Hit}
+use Rattle.aries.specs.Program.{answerOf, numberOf, countOf, lineOf, listOf}
+
+-- the refusal's number or 0, the count of hits, the refusal's line
+abbrev pub threeNumbers : Answer → List ℕ
+threeNumbers a = numberOf a ∷ countOf a ∷ lineOf a ∷ []
+
+-- The numbers and the list are those of the hits, or of the refusal.
+pub record Exported (answer : List ℕ) (list : List ℤ) (numbers : ℕ) (out : Out (List Hit)) : Type 0 where
+  pub answered : answer ≡ threeNumbers (answerOf out)
+  pub listed : list ≡ listOf numbers out
