@@ -1,30 +1,69 @@
-// Standard input.
-use libc::STDIN_FILENO;
+// Reading a text.
+use libc::EINTR;
 ghost use Prim.Native.Nat.{_≤_};
 ghost use lib.ListN.{length};
 ghost use Rattle.io.specs.Counts.{Counts};
 
-// Reads once, and answers how many bytes now stand at the start of the part; 0 where the input ends or the read fails.
-fn read_some(part: &mut [u8]) -> usize
-    ensures { λ r. ⌜ r ≤ length (now (part .entry)) ⌝ }
-{
-    let got = libc::read(STDIN_FILENO, part);
-    io::count(got, part)
+// How often a call that a signal interrupts is made, before that counts as a failure.
+pub const MOST_TRIES: u32 = 100;
+
+// What reading comes to: how many bytes there are, and whether it was a failure that ended it.
+pub struct Received {
+    pub count: usize,
+    pub is_failed: bool,
 }
 
-// Reads into a buffer from a place on, until it is full or nothing more comes. Answers how many bytes the buffer then
-// has, those before the place counted.
-pub fn read_on(buffer: &mut [u8], from: usize) -> usize
-    requires { ⌜ from ≤ length (now buffer) ⌝ }
-    ensures { λ r. ⌜ Counts r (now (buffer .exit)) ⌝ }
+// Reads once into a part of a buffer, and again where a signal interrupts that. No bytes are the end of the input.
+fn read_some(fd: i32, part: &mut [u8]) -> Received
+    ensures { λ r. ⌜ r .count ≤ length (now (part .entry)) ⌝ }
 {
-    let mut done = from;
-    while done < buffer.len() {
-        let more = read_some(&mut buffer[done..]);
-        if more == 0 {
-            return done;
+    let mut tries = 0;
+    while tries < MOST_TRIES {
+        let got = libc::read(fd, part);
+        if 0 <= got {
+            return Received {
+                count: io::count(got, part),
+                is_failed: false,
+            };
         }
-        done += more;
+        if os::errno() != EINTR {
+            return Received {
+                count: 0,
+                is_failed: true,
+            };
+        }
+        tries += 1;
     }
-    done
+    Received {
+        count: 0,
+        is_failed: true,
+    }
+}
+
+// Reads into a buffer until it is full, the input ends or a read fails. Of the bytes nothing is claimed: they are what
+// the system gives.
+pub fn read_text(fd: i32, buffer: &mut [u8]) -> Received
+    ensures { λ r. ⌜ Counts (r .count) (now (buffer .exit)) ⌝ }
+{
+    let mut done = 0;
+    while done < buffer.len() {
+        let got = read_some(fd, &mut buffer[done..]);
+        if got.is_failed {
+            return Received {
+                count: done,
+                is_failed: true,
+            };
+        }
+        if got.count == 0 {
+            return Received {
+                count: done,
+                is_failed: false,
+            };
+        }
+        done += got.count;
+    }
+    Received {
+        count: done,
+        is_failed: false,
+    }
 }

@@ -1,76 +1,62 @@
 // Listings on standard output.
+use crate::input::MOST_TRIES;
 use aries::answer::Answer;
+use libc::EINTR;
 use libc::STDOUT_FILENO;
-ghost use mathlib.Core.Path.{_≡_};
-ghost use Prim.Native.Nat.{suc, _*_, _≤_, _<_};
+ghost use Prim.Native.Nat.{suc, _*_, _≤_};
 ghost use lib.ListN.{length};
 ghost use Rattle.aries.specs.Program.{countOf};
 ghost use Rattle.printing.specs.Listing.{longestLine};
 
-// A listing goes through the smallest buffer of three that holds it, since clearing a large one takes time. Each has 64
-// bytes for the head and for each hit.
-const FEW: usize = 128;
+// The longest listing: 64 bytes for the head, and for each of 4,096 hits.
+const LISTING: usize = 262_208;
 
-const SMALL: usize = 8_192;
+// Writes once, and again where a signal interrupts that. Answers how many of the bytes are written; none where it fails.
+fn write_some(part: &[u8]) -> usize
+    ensures { λ r. ⌜ r ≤ length (now (part .entry)) ⌝ }
+{
+    let mut tries = 0;
+    while tries < MOST_TRIES {
+        let put = libc::write(STDOUT_FILENO, part);
+        if 0 <= put {
+            return io::count(put, part);
+        }
+        if os::errno() != EINTR {
+            return 0;
+        }
+        tries += 1;
+    }
+    0
+}
 
-const SOME: usize = 1_024;
+// Writes all bytes, up to the first failure, and answers whether there was none. What arrives is not claimed.
+fn write_all(bytes: &[u8]) -> bool {
+    let mut done = 0;
+    while done < bytes.len() {
+        let put = write_some(&bytes[done..]);
+        if put == 0 {
+            return false;
+        }
+        done += put;
+    }
+    true
+}
 
-const MEDIUM: usize = 65_536;
-
-const LARGE: usize = 262_208;
-
-// Prints a listing through a buffer.
+// Prints the listing of an answer through a buffer. One that can't be written to its end is told on standard error.
 fn print_through(out: &mut [u8], list: &[i32], answer: Answer)
     requires { ⌜ longestLine * suc (countOf answer) ≤ length (now out) ⌝ }
 {
     let start = printing::render(out, list, answer);
-    io::write_all(STDOUT_FILENO, &out[start..]);
-}
-
-// A refusal, or the listing of few hits.
-fn print_few(list: &[i32], answer: Answer)
-    requires { ⌜ countOf answer < 128 ⌝ }
-{
-    let mut out = [0u8; SMALL];
-    print_through(&mut out, list, answer);
-}
-
-// The listing of some hits.
-fn print_some(list: &[i32], answer: Answer)
-    requires { ⌜ countOf answer < 1024 ⌝ }
-{
-    let mut out = [0u8; MEDIUM];
-    print_through(&mut out, list, answer);
-}
-
-// The listing of up to 4,096 hits.
-fn print_many(list: &[i32], answer: Answer)
-    requires { ⌜ countOf answer ≤ 4096 ⌝ }
-{
-    let mut out = [0u8; LARGE];
-    print_through(&mut out, list, answer);
-}
-
-// How many hits an answer counts.
-fn count_of(answer: Answer) -> usize
-    ensures { λ r. ⌜ r ≡ countOf answer ⌝ }
-{
-    match answer {
-        Answer::Hits(count) => count,
-        Answer::Refused(number, line) => 0,
+    let is_written = write_all(&out[start..]);
+    if !is_written {
+        os::fail(b"hitlist: the list is cut short: standard output");
     }
 }
 
-// The listing, through a buffer that is large enough.
+// Prints the listing of up to 4,096 hits, or of a refusal.
 pub fn print_listing(list: &[i32], answer: Answer)
     requires { ⌜ countOf answer ≤ 4096 ⌝ }
 {
-    let count = count_of(answer);
-    if count < FEW {
-        print_few(list, answer);
-    } else if count < SOME {
-        print_some(list, answer);
-    } else {
-        print_many(list, answer);
-    }
+    let mut out = [0u8; LISTING];
+    print_through(&mut out, list, answer);
 }

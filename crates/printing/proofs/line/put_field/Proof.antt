@@ -15,9 +15,6 @@ use Rattle.printing.proofs.Decimals.{signed-word}
 use Rattle.printing.proofs.line.put_field.Statement.{statement}
 use Rattle.printing.proofs.line.put_field.Tie as tie
 
-number-at-requires : tie.Need-number-at-requires
-number-at-requires c κs = search needs
-
 -- the number, read back from the word that holds it
 number : (c : tie.After-number-at) → toZ w32 (ofZ w32 (c .number-at .result)) ≡ getD (c .before .before .before .args .list .now) (c .before .before .before .args .at) (pos 0)
 number c = read-back w32 (c .number-at .result) (c .number-at .ok) ∙ c .number-at .ensures
@@ -40,9 +37,6 @@ put-byte-requires c κs =
     let s = c .before .before .before .before .before .before .before .pre in
     record { fits = omega (arith, short n, p, s .fits); inside = omega (arith, p, s .inside) }
 
-same-length : tie.Need-same-length
-same-length c = search needs
-
 returns : tie.Need-returns
 returns c =
     let space = c .before .before in
@@ -54,4 +48,4 @@ returns c =
 pub put-field-spec : {M : Type 1} → statement M
 put-field-spec =
     tie.close
-    (tie.spec number-at-requires put-signed-requires put-byte-requires same-length returns)
+    (tie.spec (λ c κs. search needs) put-signed-requires put-byte-requires (λ c. search needs) returns)

@@ -16,22 +16,14 @@ use Rattle.printing.proofs.line.put_head.Tie as tie
 count-digits : (s : tie.Start) → length (decimal (s .args .count)) ≤ 20
 count-digits s = decimal-word (s .args .count) (omega arith)
 
-put-byte-requires : tie.Need-put-byte-requires
-put-byte-requires c κs = search needs
-
 put-decimal-requires : tie.Need-put-decimal-requires
 put-decimal-requires c κs =
     record { fits = omega (arith, count-digits (c .before .before .before .before .before .before)); inside = search needs }
 
-slice-aggregate-put-text : tie.Need-slice-aggregate-put-text
-slice-aggregate-put-text c = search needs
-
 put-text-requires : tie.Need-put-text-requires
 put-text-requires c κs =
-    record { fits = omega (arith, count-digits (c .before .before .before .before .before .before .before .before .before .before .before)); inside = search needs }
-
-same-length : tie.Need-same-length
-same-length c = search needs
+    let count = c .before .before .before .before .before in
+    record { fits = omega (arith, count-digits (count .before .before .before .before .before .before)); inside = search needs }
 
 returns : tie.Need-returns
 unfolding headLine bytes
@@ -45,9 +37,9 @@ pub put-head-spec : {M : Type 1} → statement M
 put-head-spec =
     tie.close
     (tie.spec
-    put-byte-requires
+    (λ c κs. search needs)
     put-decimal-requires
-    slice-aggregate-put-text
+    (λ c. search needs)
     put-text-requires
-    same-length
+    (λ c. search needs)
     returns)

@@ -8,24 +8,6 @@ use borrow.Author.Needs.{needs}
 use Rattle.printing.proofs.line.put_mode.Statement.{statement}
 use Rattle.printing.proofs.line.put_mode.Tie as tie
 
-put-byte-requires : tie.Need-put-byte-requires
-put-byte-requires c κs = search needs
-
-number-at-requires : tie.Need-number-at-requires
-number-at-requires c κs = search needs
-
-mode-letter-requires : tie.Need-mode-letter-requires
-mode-letter-requires c κs = search needs
-
-put-byte-requires-2 : tie.Need-put-byte-requires-2
-put-byte-requires-2 c κs = search needs
-
-put-byte-requires-3 : tie.Need-put-byte-requires-3
-put-byte-requires-3 c κs = search needs
-
-same-length : tie.Need-same-length
-same-length c = search needs
-
 returns : tie.Need-returns
 returns c =
     let space = c .before .before in
@@ -40,10 +22,10 @@ pub put-mode-spec : {M : Type 1} → statement M
 put-mode-spec =
     tie.close
     (tie.spec
-    put-byte-requires
-    number-at-requires
-    mode-letter-requires
-    put-byte-requires-2
-    put-byte-requires-3
-    same-length
+    (λ c κs. search needs)
+    (λ c κs. search needs)
+    (λ c κs. search needs)
+    (λ c κs. search needs)
+    (λ c κs. search needs)
+    (λ c. search needs)
     returns)

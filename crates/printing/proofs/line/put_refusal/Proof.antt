@@ -19,37 +19,31 @@ line-digits s = decimal-word (s .args .line) (omega arith)
 number-digits : (s : tie.Start) → length (decimal (s .args .number)) ≤ 3
 number-digits s = decimal-short 2 (s .args .number) (omega arith)
 
-put-byte-requires : tie.Need-put-byte-requires
-put-byte-requires c κs = search needs
-
 put-decimal-requires : tie.Need-put-decimal-requires
 put-decimal-requires c κs =
     let s = c .before .before .before .before .before .before in
     record { fits = omega (arith, line-digits s); inside = search needs }
 
-slice-aggregate-put-text : tie.Need-slice-aggregate-put-text
-slice-aggregate-put-text c = search needs
-
 put-text-requires : tie.Need-put-text-requires
 put-text-requires c κs =
-    let s = c .before .before .before .before .before .before .before .before .before .before .before in
+    let line = c .before .before .before .before .before in
+    let s = line .before .before .before .before .before .before in
     record { fits = omega (arith, line-digits s); inside = search needs }
 
 put-decimal-requires-2 : tie.Need-put-decimal-requires-2
 put-decimal-requires-2 c κs =
-    let s = c .before .before .before .before .before .before .before .before .before .before .before .before .before .before .before in
+    let word = c .before .before .before .before in
+    let line = word .before .before .before .before .before in
+    let s = line .before .before .before .before .before .before in
     record { fits = omega (arith, line-digits s, number-digits s); inside = search needs }
-
-slice-aggregate-put-text-2 : tie.Need-slice-aggregate-put-text-2
-slice-aggregate-put-text-2 c = search needs
 
 put-text-requires-2 : tie.Need-put-text-requires-2
 put-text-requires-2 c κs =
-    let s = c .before .before .before .before .before .before .before .before .before .before .before .before .before .before .before .before .before .before .before .before in
+    let number = c .before .before .before .before .before in
+    let word = number .before .before .before .before in
+    let line = word .before .before .before .before .before in
+    let s = line .before .before .before .before .before .before in
     record { fits = omega (arith, line-digits s, number-digits s); inside = search needs }
-
-same-length : tie.Need-same-length
-same-length c = search needs
 
 returns : tie.Need-returns
 unfolding refusalLine bytes
@@ -69,12 +63,12 @@ pub put-refusal-spec : {M : Type 1} → statement M
 put-refusal-spec =
     tie.close
     (tie.spec
-    put-byte-requires
+    (λ c κs. search needs)
     put-decimal-requires
-    slice-aggregate-put-text
+    (λ c. search needs)
     put-text-requires
     put-decimal-requires-2
-    slice-aggregate-put-text-2
+    (λ c. search needs)
     put-text-requires-2
-    same-length
+    (λ c. search needs)
     returns)
