@@ -6,7 +6,7 @@
 import os
 import sys
 from table import CASES, R, H
-import cases_text, cases_press, cases_limits, cases_manual
+import cases_text, cases_press, cases_limits, cases_manual, cases_page, cases_plates
 from expander import expand, printed
 
 bad = 0
@@ -28,17 +28,21 @@ for name, length, text, hand, reason in CASES:
                     print('    hit', k, 'hand', h, 'expander', rest[k - 1 if k > 0 else k])
 print(len(CASES), 'cases,', bad, 'differ')
 
-GROUPS = ['plates', 'tempting', 'text', 'words', 'letters', 'codes', 'two', 'ranges', 'kinds', 'moves', 'origin', 'patterns', 'memory', 'sine', 'macros',
-          'layouts', 'lists', 'characters', 'calls', 'blocks', 'reach', 'refusal', 'order', 'decision', 'manual']
+GROUPS = ['plates', 'page', 'tempting', 'text', 'words', 'letters', 'codes', 'two', 'ranges', 'kinds', 'moves', 'origin', 'patterns', 'memory', 'sine', 'macros',
+          'layouts', 'lists', 'characters', 'calls', 'blocks', 'reach', 'refusal', 'order', 'decision', 'manual', 'samples']
 HEADS = {
-    'plates': 'The plates of document 01', 'tempting': 'Four readings that tempt', 'text': 'Bytes, lines, spaces', 'words': 'The form of a word (4)',
+    'plates': 'The plates of document 01', 'page': 'The examples of docs/PUNCH-CODE.md', 'tempting': 'Four readings that tempt', 'text': 'Bytes, lines, spaces', 'words': 'The form of a word (4)',
     'letters': 'The letters of each block (5)', 'codes': 'Codes (5)', 'two': 'Two G words (5)', 'ranges': 'Range ends and one beyond (6, 16)',
     'kinds': 'Signs and points on whole numbers (6)', 'moves': 'Moving and punching', 'origin': 'The waiting origin', 'patterns': 'Patterns',
     'memory': 'Pattern memory', 'sine': 'Sines', 'macros': 'Macros', 'layouts': 'Layouts', 'lists': 'Lists (17)', 'characters': 'Characters of bodies (12)',
     'calls': 'Open calls (11)', 'blocks': 'Blocks carried out (3)', 'reach': 'Reach (15)', 'refusal': 'Each refusal at the top, in a body, in a first run, in a copy',
     'order': 'Two faults in one block', 'decision': 'Decisions', 'manual': 'Examples of the manuals',
+    'samples': 'The sample plates',
 }
 
+
+# arguments that are no length of a list: no number, too long for the longest list, a digit's neighbours
+NO_LENGTHS = ['x', '16385', '99999', '12x', '1:', '1/', '-4']
 
 golden = list(zip(CASES, answers))
 golden.sort(key=lambda ca: (GROUPS.index(ca[0][0].split('-')[0]), ca[0][0] if ca[0][0].split('-')[0] in ('order', 'refusal') else ''))
@@ -74,6 +78,9 @@ def write(folder):
     for f in os.listdir(data):
         os.remove(os.path.join(data, f))
     words, out = [], []
+    for length in NO_LENGTHS:
+        words += [length, golden[0][0][0] + '.nc']
+        out.append('%s.nc NO LENGTH\n' % golden[0][0][0])
     for (name, length, text, hand, reason), answer in golden:
         file = name + '.nc'
         with open(os.path.join(data, file), 'wb') as f:
@@ -105,7 +112,7 @@ def intro():
     return '''# The golden cases
 
 A case is a program text in `data/` with a list length. `args` has, for each case, the length and the file's name;
-`stdout` has the name, the length and the answer as hitlist prints it. A name says what its case tests, so that the first
+`stdout` has the name, the length and the answer as hitlist prints it. First come arguments that are no length. A name says what its case tests, so that the first
 line that differs explains itself. The answers were worked out from the rules and not taken from the program.
 
 The table of cases is in `derive/`, each with what was worked out by hand: a refusal's number and line, or the count of
@@ -115,7 +122,8 @@ hits and some of them. Beside it is an expander of its own, written from the rul
 In the tables a slash stands for a line feed; a long text, or one with other bytes, is in its file. Lines count from 1,
 blank ones too. The list has 16,384 numbers, so places for 4,096 hits, unless another length is given. An answer is a
 refusal's number and line, or the hits: X, Y, tool, mode. In the last column a number before a colon is that refusal's;
-000, 001 and 002 are the manuals.
+000, 001 and 002 are the manuals. Document 01 is the specification; its rules are in docs/PUNCH-CODE.md, where the cases
+named page-.. are worked out step by step.
 '''
 
 

@@ -12,6 +12,9 @@ const MOST_READ: usize = 60_001;
 // The numbers of the longest list, which has places for 4,096 hits.
 const NUMBERS: usize = 16_384;
 
+// Stands for an argument that is no length of a list.
+const NO_LENGTH: usize = 16_385;
+
 // Prints a listing, or a refusal, through a buffer.
 fn print_through(out: &mut [u8], list: &[i32], answer: Answer)
     requires { ⌜ 64 * suc (countOf answer) ≤ length (now out) ⌝ }
@@ -54,31 +57,35 @@ fn run_text(fd: i32, numbers: usize)
     run_within(&text[..n], &mut list, numbers);
 }
 
-// The value of a digit; of any other byte, 0.
+// The value of a digit; of any other byte, 10.
 fn digit(byte: u8) -> usize
-    ensures { λ r. ⌜ r ≤ 9 ⌝ }
+    ensures { λ r. ⌜ r ≤ 10 ⌝ }
 {
     if byte < b'0' {
-        0
+        10
     } else if b'9' < byte {
-        0
+        10
     } else {
         (byte - b'0') as usize
     }
 }
 
-// One digit more; a number above the longest list becomes the longest list.
+// One byte more of a number. With what is no digit, or above the longest list, it is no length, and stays so.
 fn with_digit(number: usize, byte: u8) -> usize
-    requires { ⌜ number ≤ 16384 ⌝ }
-    ensures { λ r. ⌜ r ≤ 16384 ⌝ }
+    requires { ⌜ number ≤ 16385 ⌝ }
+    ensures { λ r. ⌜ r ≤ 16385 ⌝ }
 {
-    let longer = 10 * number + digit(byte);
-    if NUMBERS < longer { NUMBERS } else { longer }
+    let value = digit(byte);
+    if 9 < value {
+        return NO_LENGTH;
+    }
+    let longer = 10 * number + value;
+    if NUMBERS < longer { NO_LENGTH } else { longer }
 }
 
-// The number that digits write, at most the longest list.
+// The number that digits write, or no length.
 fn number(digits: &[u8]) -> usize
-    ensures { λ r. ⌜ r ≤ 16384 ⌝ }
+    ensures { λ r. ⌜ r ≤ 16385 ⌝ }
 {
     let mut value = 0;
     let mut i = 0;
@@ -89,32 +96,44 @@ fn number(digits: &[u8]) -> usize
     value
 }
 
-// The list length that argument i writes.
+// The list length that argument i writes, or no length.
 fn length_argument(i: usize) -> usize
-    ensures { λ r. ⌜ r ≤ 16384 ⌝ }
+    ensures { λ r. ⌜ r ≤ 16385 ⌝ }
 {
     let mut digits = io::buffer();
     let n = os::arg(i, &mut digits);
+    if n == 0 {
+        return NO_LENGTH;
+    }
     number(&digits[..n])
 }
 
-// Runs the file that argument `name` names, with a list of so many numbers.
-fn run_case(name: usize, numbers: usize)
+// Runs the text of the file with a name, with a list of so many numbers.
+fn run_named(name: &[u8], numbers: usize)
     requires { ⌜ numbers ≤ 16384 ⌝ }
 {
-    let mut path = io::buffer();
-    let n = os::arg(name, &mut path);
-    io::write_all(STDOUT_FILENO, &path[..n]);
-    io::write_all(STDOUT_FILENO, b" ");
-    io::print_decimal(STDOUT_FILENO, numbers as u64);
-    io::write_all(STDOUT_FILENO, b"\n");
-    let fd = os::open_read(&path[..n]);
+    let fd = os::open_read(name);
     if fd < 0 {
         io::write_all(STDOUT_FILENO, b"MISSING\n");
         return;
     }
     run_text(fd, numbers);
     libc::close(fd);
+}
+
+// Runs the file that argument `name` names, with a list of so many numbers, unless that is no length.
+fn run_case(name: usize, numbers: usize) {
+    let mut path = io::buffer();
+    let n = os::arg(name, &mut path);
+    io::write_all(STDOUT_FILENO, &path[..n]);
+    io::write_all(STDOUT_FILENO, b" ");
+    if NUMBERS < numbers {
+        io::write_all(STDOUT_FILENO, b"NO LENGTH\n");
+        return;
+    }
+    io::print_decimal(STDOUT_FILENO, numbers as u64);
+    io::write_all(STDOUT_FILENO, b"\n");
+    run_named(&path[..n], numbers);
 }
 
 // Argument 0 is the program itself; the pairs follow.

@@ -1,4 +1,4 @@
--- The invariant: what the digits so far write is no more than the longest list. Assumes nothing.
+-- The invariant: what the bytes so far write is a length or none. Assumes nothing.
 use Prim.Native.Nat.{_-_, _≤_}
 use native.Mathlib.Omega.{arith}
 use borrow.Author.Needs.{needs}
@@ -7,7 +7,7 @@ use Rattle.cases.proofs.number.Statement.{statement}
 use Rattle.cases.proofs.number.Tie as tie
 
 abbrev Inv-loop : tie.InvT-loop
-Inv-loop digits value₀ i₀ value i = value ≤ 16384
+Inv-loop digits value₀ i₀ value i = value ≤ 16385
 
 abbrev μ-loop : tie.MeasureT-loop
 μ-loop digits value₀ i₀ value i = length digits - i

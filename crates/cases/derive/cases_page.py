@@ -1,0 +1,70 @@
+"""The worked examples of docs/PUNCH-CODE.md, whose steps stand there."""
+from table import *
+
+HEAD = 'G92 X600. Y600.'
+
+
+def P(x, y, t=2):
+    return (x, y, t, 'P')
+
+
+def N(x, y, t=2):
+    return (x, y, t, 'N')
+
+
+def example(name, body, answer, reason):
+    """A program on the ARIES-222 between G92 and G50."""
+    case('page-' + name, p(body, HEAD), answer, reason)
+
+
+case('page-units', 'G92 X60000 Y600./X100 Y100. T1/X1.5 Y1.05/G28 I10. J4500 K1/G50', all_of(P(100, 10000, 1), P(150, 105, 1), P(857, 812, 1)),
+     'without a point a number counts hundredths')
+example('t', 'X20. Y20. T3/X40./G70 X60. T5/Y40./G28 I10. J0 K2 T7/X10. Y10.',
+        all_of(P(2000, 2000, 3), P(4000, 2000, 3), P(6000, 4000, 5), P(7000, 4000, 7), P(8000, 4000, 7), P(1000, 1000, 7)),
+        'a tool stays chosen; G70 and patterns choose one too')
+case('page-g92', 'G92 X1000. Y600./X1010.2 T1/X-10.2 Y-10.2/G50', all_of(P(101020, 60000, 1), P(-1020, -1020, 1)), 'the ARIES-224 and two corners of its range')
+example('g93', 'G93 X100. Y100./X10. Y10. T1/G93 X200./X10. Y10./G91 X5.', all_of(P(11000, 11000, 1), P(21000, 11000, 1), P(21500, 11000, 1)),
+        'an offset is set, axis by axis, and not added')
+example('g98', 'G93 X5./G98 X100. Y50. I40. J30. P2 K1 D2./X10. Y10. T1/U1/X0 Y0/V1/G75 W1 Q1',
+        all_of(P(11500, 6000, 1), P(10500, 5000, 1), P(14700, 5000, 1), P(18900, 5000, 1), P(18900, 8200, 1), P(14700, 8200, 1), P(10500, 8200, 1)),
+        'the offset counts, D is added to both pitches, U1 only stores')
+case('page-g50', HEAD + '/X10. Y10. T1/G50//X20.', R(7, 5), '7: only blank lines follow G50')
+case('page-g50-missing', HEAD + '/X10. Y10. T1/', R(7, 3), '7: the text ends without G50; its last line is blank')
+example('g90', 'G93 X100. Y50./G91 X-500. Y-500. T1/G90 X20./Y30.', all_of(P(10000, 10000, 1), P(12000, 10000, 1), P(12000, 8000, 1)),
+        'G90 holds in its own block and on; X and Y count from the origin')
+example('g91', 'X100. Y100. T1/G72 X200. Y200./G91/X10./Y-5./G28 I10. J0 K1',
+        all_of(P(10000, 10000, 1), P(11000, 10000, 1), P(11000, 9500, 1), P(12000, 9500, 1)), 'a lone G91 makes no hit and drops the waiting origin')
+example('g70', 'G70 X100. Y100. T4/G91 Y10./G28 I5. J180. K2', all_of(P(10000, 11000, 4), P(9500, 11000, 4), P(9000, 11000, 4)), 'G70 moves and chooses its tool')
+example('g72', 'X100. Y100. T2/G72 X200. Y200./G91 X10./G90 G72 X200./G28 I10. J90. K2/X50.',
+        all_of(P(10000, 10000), P(11000, 10000), P(20000, 11000), P(20000, 12000), P(5000, 12000)),
+        'a position drops the first origin; the second takes its Y from the current point')
+example('g26', 'X200. Y200. T2/G26 I30. J90. K-3/G91 X5.', all_of(P(20000, 20000), P(20000, 23000), P(22598, 18500), P(17402, 18500), P(20500, 20000)),
+        'a third of a turn clockwise at a time; the circle ends at its start')
+example('g26-rounded-turns', 'G72 X300. Y300./G26 I100. J0 K7 T2',
+        all_of(P(40000, 30000), P(36235, 37818), P(27774, 39749), P(20990, 34338), P(20990, 25662), P(27774, 20251), P(36235, 22182)),
+        'turns of 5,143, 10,286, 15,429, 20,571, 25,714 and 30,857 hundredths')
+example('g28', 'X100. Y100. T2/G28 I9. J45. K3', all_of(P(10000, 10000), P(10636, 10636), P(11273, 11273), P(11909, 11909)),
+        'twice 9 mm at 45 degrees is 1272.79, so 1273; two steps of 636 would be 1272')
+example('g29', 'G72 X300. Y300./G29 I100. J22.5 P45. K3 T2/X0', all_of(P(39239, 33827), P(33827, 39239), P(26173, 39239), P(0, 39239)),
+        '22.5, 67.5 and 112.5 degrees; the arc ends at its last hit')
+example('g36', 'X50. Y50. T2/G36 I20. P2 J10. K1', all_of(P(5000, 5000), P(7000, 5000), P(9000, 5000), P(9000, 6000), P(7000, 6000), P(5000, 6000)),
+        'three columns and two rows, row by row')
+example('g37', 'X50. Y50. T2/G37 I20. P2 J10. K1', all_of(P(5000, 5000), P(5000, 6000), P(7000, 6000), P(7000, 5000), P(9000, 5000), P(9000, 6000)),
+        'the same places, column by column')
+example('a-and-b', 'X50. Y50. T2/A1 G28 I10. J90. K2 T3/G70 X100. Y50./B1/X150. Y50. T4/B1',
+        all_of(P(5000, 5000), P(5000, 6000, 3), P(5000, 7000, 3), P(10000, 6000, 3), P(10000, 7000, 3), P(15000, 5000, 4), P(15000, 6000, 4), P(15000, 7000, 4)),
+        'the memory holds the line without its tool')
+example('m12-m13', 'X10. Y10. T9/M12/X20./G28 I5. J0 K2/M13/X40.', all_of(P(1000, 1000, 9), N(2000, 1000, 9), N(2500, 1000, 9), N(3000, 1000, 9), P(4000, 1000, 9)),
+        'mode N from M12 to M13, in patterns too')
+example('m00-m01-m08-m09', 'X10. Y10. T1/M0/G72 X50. Y50./M08/G28 I10. J0 K1/M09/M01', all_of(P(1000, 1000, 1), P(6000, 5000, 1)),
+        'they change nothing; M0 is M00')
+example('u-v-w', 'U1/X10. Y10. T5/G91 X5./V1/U60/G90 Y50./W1/V60/W60',
+        all_of(P(1000, 1000, 5), P(1500, 1000, 5), P(1500, 5000, 5), P(1000, 1000, 5), P(1500, 1000, 5)),
+        'macro 1 runs where it is stored, macro 60 when it is called')
+example('g75', 'G98 X50. Y50. I100. J80. P1 K2/U60/X10. Y20. T2/V60/G75 W60 Q2',
+        all_of(P(16000, 7000), P(6000, 7000), P(6000, 15000), P(16000, 15000), P(16000, 23000), P(6000, 23000)), 'row by row from the lower right')
+example('g76', 'G98 X50. Y50. I100. J80. P1 K2/U60/X10. Y20. T2/V60/G76 W60 Q3',
+        all_of(P(6000, 23000), P(6000, 15000), P(6000, 7000), P(16000, 7000), P(16000, 15000), P(16000, 23000)), 'column by column from the upper left')
+example('copies-begin-alike', 'X10. Y10. T2/G98 X100. Y100. I50. P1/U60/X5. Y5./G91 X1. T3/V60/G75 W60 Q1/X1./G90 Y0',
+        all_of(P(1000, 1000), P(10500, 10500), P(10600, 10500, 3), P(15500, 10500), P(15600, 10500, 3), P(15700, 10500, 3), P(15700, 10000, 3)),
+        'each copy begins with G90 and tool 2; the last one leaves G91 and tool 3')

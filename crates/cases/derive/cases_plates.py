@@ -1,0 +1,118 @@
+"""The sample plates: what their drawings ask for, worked out from the dimensions in plates/README.md and not from the
+programs, hole after hole in the order of punching."""
+import math
+import os
+from table import *
+
+PLATES = os.path.join(os.path.dirname(os.path.abspath(__file__)), '../../../plates')
+
+
+class Drawing:
+    """Outer size, where the plate's lower left corner lies on the sheet, and the holes from that corner: X, Y, tool, mode.
+
+    Sizes are in millimetres, holes in hundredths."""
+
+    def __init__(self, size, corner, *groups):
+        self.size, self.corner = size, corner
+        self.holes = [hole for group in groups for hole in group]
+
+    def hits(self):
+        left, low = whole(self.corner[0]), whole(self.corner[1])
+        return [(left + x, low + y, tool, mode) for x, y, tool, mode in self.holes]
+
+
+def whole(millimetres):
+    """Hundredths, to the nearest, halves away from zero."""
+    size = math.floor(abs(millimetres) * 100 + 0.5)
+    return size if millimetres >= 0 else -size
+
+
+def polar(centre, distance, degrees):
+    """A place from a centre; what is added to the centre is rounded."""
+    angle = math.radians(degrees)
+    return whole(centre[0]) + whole(distance * math.cos(angle)), whole(centre[1]) + whole(distance * math.sin(angle))
+
+
+def holes(tool, *places):
+    return [(whole(x), whole(y), tool, 'P') for x, y in places]
+
+
+def corners(tool, first, width, height):
+    """Four holes around a rectangle, against the clock from its lower left."""
+    x, y = first
+    return holes(tool, (x, y), (x + width, y), (x + width, y + height), (x, y + height))
+
+
+def rows(tool, first, pitch, columns, count):
+    """Row by row from the lower left, every second one back."""
+    def row(r):
+        return [(first[0] + pitch * c, first[1] + pitch * r) for c in range(columns)]
+    return holes(tool, *(place for r in range(count) for place in (row(r) if r % 2 == 0 else row(r)[::-1])))
+
+
+def columns(tool, first, pitch, count, in_each):
+    """Column by column from the lower left, every second one back."""
+    turned = rows(tool, (first[1], first[0]), pitch, in_each, count)
+    return [(x, y, tool, mode) for y, x, tool, mode in turned]
+
+
+def ring(tool, centre, radius, degrees, step, count):
+    """Holes on a circle, each a step further from the first one's angle; with a step below 0 clockwise."""
+    return [polar(centre, radius, degrees + step * k) + (tool, 'P') for k in range(count)]
+
+
+def slot(tool, first, pitch, degrees, count):
+    """Nibbled hits in a line, the first one's place given."""
+    return [polar(first, pitch * k, degrees) + (tool, 'N') for k in range(count)]
+
+
+def tube(place):
+    """A tube's hole, and four for its clips around it."""
+    return holes(14, place) + ring(3, place, 17.5, 45, 90, 4)
+
+
+def tube_with_label(place):
+    """The same, and two for the screws of a label to the right."""
+    x, y = place
+    return tube(place) + holes(4, (x + 24, y), (x + 54, y))
+
+
+def tubes_of_the_rack():
+    """Six by three tubes 40 mm apart, row by row and back; above them three with labels, 80 mm apart, from the right."""
+    lower = [(30 + 40 * c, 30 + 40 * r) for r in range(3) for c in (range(6) if r % 2 == 0 else range(5, -1, -1))]
+    upper = [(30 + 80 * c, 150) for c in (2, 1, 0)]
+    return [hole for place in lower for hole in tube(place)] + [hole for place in upper for hole in tube_with_label(place)]
+
+
+DRAWINGS = {
+    'eight-by-twelve-rack': Drawing(
+        (127.76, 85.48), (100, 100),
+        rows(2, (14.38, 11.24), 9, 12, 8),
+        corners(5, (5, 5), 117.76, 75.48)),
+    'tip-rack': Drawing(
+        (127.76, 85.48), (200, 150),
+        columns(3, (12.13, 8.99), 4.5, 24, 16),
+        slot(7, (5, 33.24), 1, 90, 20),
+        slot(7, (122.76, 33.24), 1, 90, 20)),
+    'tube-rack': Drawing(
+        (260, 180), (50, 60),
+        corners(5, (10, 10), 240, 160),
+        tubes_of_the_rack()),
+    'deck-plate': Drawing(
+        (900, 540), (40, 30),
+        corners(8, (65, 50), 140, 98),
+        corners(8, (275, 50), 140, 98),
+        corners(8, (485, 50), 140, 98),
+        corners(8, (695, 50), 140, 98),
+        ring(6, (300, 300), 60, 22.5, 45, 8),
+        ring(6, (600, 300), 60, 22.5, 45, 8),
+        ring(4, (300, 300), 30, 0, -60, 6),
+        holes(4, *((60 + 15 * k, 430) for k in range(12))),
+        ring(4, (142.5, 400), 45, 180, 22.5, 9),
+        slot(9, (690, 470), 2.5, -30, 24)),
+}
+
+for name, drawing in DRAWINGS.items():
+    with open(os.path.join(PLATES, name + '.nc'), 'rb') as file:
+        case('samples-' + name, file.read(), all_of(*drawing.hits()),
+             'plates/README.md: the holes of the drawing, in the order of punching')
