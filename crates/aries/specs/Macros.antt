@@ -19,6 +19,7 @@ use Rattle.aries.specs.declared.state.Progress.{Progress}
 use Rattle.aries.specs.Outcome.{Out, done, refused, _>>=_, need, given, inLine}
 use Rattle.aries.specs.Letters.{letterV}
 use Rattle.aries.specs.Text.{lines, startsWith}
+use Rattle.aries.specs.Numbers.{lastMacro}
 use Rattle.aries.specs.Blocks.{decode}
 use Rattle.aries.specs.Hits.{Made, noHit, andThen}
 use Rattle.aries.specs.Judging.{Judging, room}
@@ -27,9 +28,9 @@ use Rattle.aries.specs.Patterns.{runPattern, recall}
 
 -- ---- Bodies
 
--- Numbers 1 to 89 each hold at most one body.
+-- Each number holds at most one body; the lists count from 0, which no macro has.
 abbrev pub noMacros : Macros
-noMacros = record { start = replicate 90 0; end = replicate 90 0; line = replicate 90 0 }
+noMacros = record { start = replicate (suc lastMacro) 0; end = replicate (suc lastMacro) 0; line = replicate (suc lastMacro) 0 }
 
 abbrev pub isStored : Macros → ℕ → Bool
 isStored m n = ltb 0 (getD (m .line) n 0)

@@ -45,9 +45,13 @@ memoryCount = 5
 abbrev pub memoryNumber : Range
 memoryNumber = whole 1 memoryCount
 
+-- macros are numbered from 1 to
+abbrev pub lastMacro : ℕ
+lastMacro = 89
+
 -- U, V and W
 abbrev pub macroNumber : Range
-macroNumber = whole 1 89
+macroNumber = whole 1 lastMacro
 
 -- the most that K and P of a pattern may count
 abbrev pub patternMost : ℕ

@@ -3,12 +3,15 @@ ghost use Prim.Native.Nat.{_-_, _≤_};
 ghost use lib.ListN.{length};
 ghost use Rattle.aries.specs.Macros.{noMacros, storing, characters, foundIn};
 
+// A slot for each macro number from 0 on, which no macro has, to 89.
+pub const SLOTS: usize = 90;
+
 // The stored bodies, by macro number: where each starts and ends in the text without spaces, and the line of its
 // start. Line 0 says that nothing is stored.
 pub struct Macros {
-    pub start: [u16; 90],
-    pub end: [u16; 90],
-    pub line: [u16; 90],
+    pub start: [u16; SLOTS],
+    pub end: [u16; SLOTS],
+    pub line: [u16; SLOTS],
 }
 
 // A stored body: where it starts and ends, and the line of its start.
@@ -22,9 +25,9 @@ impl Macros {
     pub fn none() -> Macros
         ensures { λ r. ⌜ r ≡ noMacros ⌝ }
     {
-        let start = [0; 90];
-        let end = [0; 90];
-        let line = [0; 90];
+        let start = [0; SLOTS];
+        let end = [0; SLOTS];
+        let line = [0; SLOTS];
         Macros { start, end, line }
     }
 
@@ -40,7 +43,7 @@ impl Macros {
         ensures { λ r. ⌜ r ≡ storing self number start end line ⌝ }
     {
         let n = number as usize;
-        if 90 <= n {
+        if SLOTS <= n {
             return self;
         }
         self.start[n] = start;
@@ -55,7 +58,7 @@ impl Macros {
     {
         let mut total = 0;
         let mut n = 0;
-        while n < 90 {
+        while n < SLOTS {
             total += size(self.start[n], self.end[n]);
             n += 1;
         }
@@ -65,16 +68,16 @@ impl Macros {
 
 // The body of a macro, from the lists of a store that are lent: whoever looks often spares a copy of the store.
 pub fn find_in<'a>(
-    start: &'a [u16; 90],
-    end: &'a [u16; 90],
-    line: &'a [u16; 90],
+    start: &'a [u16; SLOTS],
+    end: &'a [u16; SLOTS],
+    line: &'a [u16; SLOTS],
     number: u8,
 ) -> Found
     requires { ⌜ length (now line) ≡ 90 ⌝ }
     ensures { λ r. ⌜ r ≡ foundIn (record { start = now (start .entry); end = now (end .entry); line = now (line .entry) }) number ⌝ }
 {
     let n = number as usize;
-    if 90 <= n {
+    if SLOTS <= n {
         return Found::Nothing;
     }
     let first = line[n];

@@ -96,7 +96,7 @@ impl State {
     }
 
     // The state with this as what waits.
-    pub fn waiting_for(mut self, origin: Waiting) -> State
+    fn waiting_for(mut self, origin: Waiting) -> State
         ensures { λ r. ⌜ r ≡ waitingFor self origin ⌝ }
     {
         let waiting = Pending { origin };
@@ -153,7 +153,7 @@ impl State {
     }
 
     // The state once a block's G90 or G91 holds.
-    pub fn measuring(mut self, m: Measure) -> State
+    fn measuring(mut self, m: Measure) -> State
         ensures { λ r. ⌜ r ≡ measuring self m ⌝ }
     {
         match m {

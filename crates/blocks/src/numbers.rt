@@ -12,6 +12,16 @@ use crate::lookup::word_at;
 use aries::block::Kind;
 use aries::word::Word;
 
+// Pattern memories and macros are numbered from 1 to these.
+const LAST_MEMORY: u32 = 5;
+
+const LAST_MACRO: u32 = 89;
+
+// The most that K and P of a pattern, and of a layout, may count.
+const PATTERN_MOST: u32 = 999;
+
+const LAYOUT_MOST: u32 = 99;
+
 // Whether least ≤ n ≤ most.
 fn within(least: u32, most: u32, n: u32) -> bool
     ensures { λ r. ⌜ r ≡ within least most n ⌝ }
@@ -57,7 +67,7 @@ fn common_fit(forms: &[u8; 26], numbers: &[i32; 26]) -> bool
 {
     whole(word_at(forms, numbers, b'N'), 0, 9999)
         & whole(word_at(forms, numbers, b'T'), 1, 99)
-        & whole(word_at(forms, numbers, b'A'), 1, 5)
+        & whole(word_at(forms, numbers, b'A'), 1, LAST_MEMORY)
 }
 
 // The numbers of G98: lengths that are not negative, and steps of at most 99.
@@ -70,8 +80,8 @@ fn layout_fits(forms: &[u8; 26], numbers: &[i32; 26]) -> bool
         & not_negative(word_at(forms, numbers, b'J'))
         & not_negative(word_at(forms, numbers, b'D'));
     lengths
-        & whole(word_at(forms, numbers, b'P'), 0, 99)
-        & whole(word_at(forms, numbers, b'K'), 0, 99)
+        & whole(word_at(forms, numbers, b'P'), 0, LAYOUT_MOST)
+        & whole(word_at(forms, numbers, b'K'), 0, LAYOUT_MOST)
 }
 
 // The letters of a kind whose numbers are limited.
@@ -80,19 +90,19 @@ fn ranges_fit(forms: &[u8; 26], numbers: &[i32; 26], kind: Kind) -> bool
 {
     match kind {
         Kind::G26 => above_zero(word_at(forms, numbers, b'I'))
-            & signed_whole(word_at(forms, numbers, b'K'), 1, 999),
-        Kind::G28 => whole(word_at(forms, numbers, b'K'), 1, 999),
+            & signed_whole(word_at(forms, numbers, b'K'), 1, PATTERN_MOST),
+        Kind::G28 => whole(word_at(forms, numbers, b'K'), 1, PATTERN_MOST),
         Kind::G29 => above_zero(word_at(forms, numbers, b'I'))
-            & whole(word_at(forms, numbers, b'K'), 1, 999),
-        Kind::G36 | Kind::G37 => whole(word_at(forms, numbers, b'P'), 0, 999)
-            & whole(word_at(forms, numbers, b'K'), 0, 999),
-        Kind::G75 | Kind::G76 => whole(word_at(forms, numbers, b'W'), 1, 89)
+            & whole(word_at(forms, numbers, b'K'), 1, PATTERN_MOST),
+        Kind::G36 | Kind::G37 => whole(word_at(forms, numbers, b'P'), 0, PATTERN_MOST)
+            & whole(word_at(forms, numbers, b'K'), 0, PATTERN_MOST),
+        Kind::G75 | Kind::G76 => whole(word_at(forms, numbers, b'W'), 1, LAST_MACRO)
             & whole(word_at(forms, numbers, b'Q'), 1, 4),
         Kind::G98 => layout_fits(forms, numbers),
-        Kind::LetterB => whole(word_at(forms, numbers, b'B'), 1, 5),
-        Kind::LetterU => whole(word_at(forms, numbers, b'U'), 1, 89),
-        Kind::LetterV => whole(word_at(forms, numbers, b'V'), 1, 89),
-        Kind::LetterW => whole(word_at(forms, numbers, b'W'), 1, 89),
+        Kind::LetterB => whole(word_at(forms, numbers, b'B'), 1, LAST_MEMORY),
+        Kind::LetterU => whole(word_at(forms, numbers, b'U'), 1, LAST_MACRO),
+        Kind::LetterV => whole(word_at(forms, numbers, b'V'), 1, LAST_MACRO),
+        Kind::LetterW => whole(word_at(forms, numbers, b'W'), 1, LAST_MACRO),
         _ => true,
     }
 }
