@@ -10,7 +10,6 @@ use native.Mathlib.Omega.{arith}
 use lib.Dec.{ltb}
 use lib.IntN.{ℤ, _+ℤ_}
 use lib.ListN.{getD}
-use Rattle.aries.specs.declared.job.Job.{Job}
 use Rattle.aries.specs.declared.point.Point.{Point}
 use Rattle.aries.specs.declared.block.Axis.{Axis}
 use Rattle.aries.specs.declared.block.Axes.{Axes}
@@ -26,11 +25,13 @@ use Rattle.aries.specs.declared.state.Waiting.the-variants.{Unset, At}
 use Rattle.aries.specs.declared.state.Stored.{Stored}
 use Rattle.aries.specs.declared.state.Stored.the-variants.{Empty, Kept}
 use Rattle.aries.specs.declared.state.State.{State}
+use Rattle.aries.specs.declared.reader.Reader.{Reader}
 use Rattle.aries.specs.declared.state.Frame.{Frame}
 use Rattle.aries.specs.declared.state.Progress.{Progress}
-use Rattle.aries.specs.Outcome.{Out, done, refused, _>>=_, need, given, Checked, passes, fails, inLine}
+use Rattle.aries.specs.Outcome.{Out, refused, _>>=_, need, given, Checked, passes, fails, inLine}
 use Rattle.aries.specs.Text.{lines}
 use Rattle.aries.specs.Machine.{inRange}
+use Rattle.aries.specs.Reader.{readerOf}
 use Rattle.aries.specs.Blocks.{decode}
 use Rattle.aries.specs.Hits.{Made, noHit, mapAfter}
 use Rattle.aries.specs.Judging.{Judging, room, judged, near}
@@ -55,8 +56,8 @@ axis-moves a incremental o c d = go (a .written) incremental
     go true true = +ℤ-swap c d (a .value)
     go true false = +ℤ-swap o d (a .value)
 
-target-moves : (v : Point) (job : Job) (f : Frame) (s : State) (a : Axes) → target (movedFrame v job f) (movedState v s) a ≡ target f s a ⊕ v
-target-moves v job f s a =
+target-moves : (v : Point) (places : ℕ) (f : Frame) (s : State) (a : Axes) → target (movedFrame v places f) (movedState v s) a ≡ target f s a ⊕ v
+target-moves v places f s a =
     ap₂ (λ (x y : ℤ). record { x = x; y = y })
     (axis-moves (a .x) (s .incremental) (f .origin .x) (s .current .x) (v .x))
     (axis-moves (a .y) (s .incremental) (f .origin .y) (s .current .y) (v .y))
@@ -68,23 +69,23 @@ start-moves v (At q) p = refl
 -- ---- Bounds
 
 -- What j judges of a moved point is judged of the point itself, or dropped where E fails; so with a pattern's reach.
-pub record Bounds (E : Type 0) (j : Judging) (bounds : Bool) (v : Point) (job : Job) : Type 0 where
+pub record Bounds (E : Type 0) (j : Judging) (bounds : Bool) (v : Point) (places : ℕ) : Type 0 where
   pub nearness : (p : Point) → Looser E (judged (j .bounds) (near (p ⊕ v))) (judged bounds (near p))
-  pub coverage : (f : Frame) (p : Point) → Looser E (judged (j .bounds) (inRange (movedFrame v job f) (p ⊕ v))) (judged bounds (inRange f p))
+  pub coverage : (f : Frame) (p : Point) → Looser E (judged (j .bounds) (inRange (movedFrame v places f) (p ⊕ v))) (judged bounds (inRange f p))
   pub reach : (t : Bool) → Looser E (judged (j .bounds) t) (judged bounds t)
 
 -- no limit on blocks and places
 abbrev pub unlimited : Bool → Judging
 unlimited bounds = record { blocks = none; bounds = bounds; places = none }
 
-module _ {E : Type 0} (j : Judging) (bounds : Bool) (v : Point) (job : Job) (w : Bounds E j bounds v job) where
+module _ {E : Type 0} (j : Judging) (bounds : Bool) (v : Point) (places : ℕ) (w : Bounds E j bounds v places) where
   -- the judging of y
   abbrev free : Judging
   free = unlimited bounds
 
   -- the frame of x
   abbrev moved : Frame → Frame
-  moved f = movedFrame v job f
+  moved f = movedFrame v places f
 
   abbrev _beside_ : (Progress → Out (Made Progress)) → (Progress → Out (Made Progress)) → Type 0
 
@@ -107,7 +108,7 @@ module _ {E : Type 0} (j : Judging) (bounds : Bool) (v : Point) (job : Job) (w :
     position-follows a t s n n′ =
         subst
         (λ (q : Point). Follows E j v n n′ (punch j (moved f) line q (progress (dropping (choosing (movedState v s) t)) n)) (position free f line′ a t (progress s n′)))
-        (sym (target-moves v job f s a))
+        (sym (target-moves v places f s a))
         (punch-follows (target f s a) (dropping (choosing s t)) n n′)
 
     -- a move to a point
@@ -121,7 +122,7 @@ module _ {E : Type 0} (j : Judging) (bounds : Bool) (v : Point) (job : Job) (w :
     unfolding move moveTo
     move-follows a t s n n′ =
         subst (λ (q : Point). Follows E j v n n′ (moveTo t q (progress (movedState v s) n)) (move free f line′ a t (progress s n′)))
-        (sym (target-moves v job f s a))
+        (sym (target-moves v places f s a))
         (follows-need 15 line line′ (w .nearness (target f s a))
         (follows-need 16 line line′ (w .coverage f (target f s a))
         (follows-no-hit (movedTo (dropping (choosing s t)) (target f s a)) n n′)))
@@ -136,7 +137,7 @@ module _ {E : Type 0} (j : Judging) (bounds : Bool) (v : Point) (job : Job) (w :
     unfolding setPatternOrigin waitAt
     setPatternOrigin-follows a s n n′ =
         subst (λ (q : Point). Follows E j v n n′ (waitAt q (progress (movedState v s) n)) (setPatternOrigin free f line′ a (progress s n′)))
-        (sym (target-moves v job f s a))
+        (sym (target-moves v places f s a))
         (follows-need 15 line line′ (w .nearness (target f s a))
         (follows-no-hit (waitingFor s (At (target f s a))) n n′))
 
@@ -219,23 +220,27 @@ module _ {E : Type 0} (j : Judging) (bounds : Bool) (v : Point) (job : Job) (w :
     block-decoded :
         (k : Judging) (d : Calls) (e : Frame) (line : ℕ) (l : List ℕ) (s : State) (n : Counts)
         → runBlock k d e line l (progress s n)
-        ≡ _>>=_ (need (mayCome k l (progress s n)) 3 line) (λ _. decodedBlock k d e line (isCounted l) (decode l) s n)
+        ≡ _>>=_ (need (mayCome k l (progress s n)) 3 line) (λ _. decodedBlock k d e line (isCounted l) (decode (readerOf e) l) s n)
     unfolding runBlock begin
     block-decoded k d e line l s n =
         >>=-assoc (need (mayCome k l (progress s n)) 3 line) _ _
-        ∙ ap (_>>=_ (need (mayCome k l (progress s n)) 3 line)) (fun-ext (λ _. >>=-assoc (inLine line (decode l)) _ _))
+        ∙ ap (_>>=_ (need (mayCome k l (progress s n)) 3 line)) (fun-ext (λ _. >>=-assoc (inLine line (decode (readerOf e) l)) _ _))
 
     runBlock-follows : (line line′ : ℕ) (l : List ℕ) → runBlock j c (moved f) line l beside runBlock free c′ f line′ l
     runBlock-follows line line′ l s n n′ =
         rw (block-decoded j c (moved f) line l (movedState v s) n, block-decoded free c′ f line′ l s n′) (go (isCounted l))
       where
+        -- what both are read by
+        reader : Reader
+        reader = readerOf f
+
         go :
             (counted : Bool)
             → Follows E j v n n′
-            (_>>=_ (need (not counted || room (j .blocks) (n .blocks)) 3 line) (λ _. decodedBlock j c (moved f) line counted (decode l) (movedState v s) n))
-            (_>>=_ (need (not counted || room none (n′ .blocks)) 3 line′) (λ _. decodedBlock free c′ f line′ counted (decode l) s n′))
-        go true = follows-counted 3 line (decoded-follows line line′ true (decode l) s n n′)
-        go false = decoded-follows line line′ false (decode l) s n n′
+            (_>>=_ (need (not counted || room (j .blocks) (n .blocks)) 3 line) (λ _. decodedBlock j c (moved f) line counted (decode reader l) (movedState v s) n))
+            (_>>=_ (need (not counted || room none (n′ .blocks)) 3 line′) (λ _. decodedBlock free c′ f line′ counted (decode reader l) s n′))
+        go true = follows-counted 3 line (decoded-follows line line′ true (decode reader l) s n n′)
+        go false = decoded-follows line line′ false (decode reader l) s n n′
 
     runLine-follows : (line line′ : ℕ) (l : List ℕ) → runLine j c (moved f) line l beside runLine free c′ f line′ l
     unfolding runBlock
@@ -275,7 +280,7 @@ module _ {E : Type 0} (j : Judging) (bounds : Bool) (v : Point) (job : Job) (w :
     -- a body carried out in a call
     pub runBody-follows :
         (d : ℕ) (f : Frame) (b b′ : Body) → b .bytes ≡ b′ .bytes
-        → Beside E j v (runBody j bodies d (movedFrame v job f) b) (runBody (unlimited bounds) bodies′ d f b′)
+        → Beside E j v (runBody j bodies d (movedFrame v places f) b) (runBody (unlimited bounds) bodies′ d f b′)
     unfolding runBody
     runBody-follows d f b b′ e =
         rw (ap lines e) (runLines-follow f (call j bodies d) (call free bodies′ d) (call-follows d) (lines (b′ .bytes)) (b .line) (b′ .line))

@@ -16,6 +16,7 @@ use Rattle.aries.specs.declared.state.Frame.{Frame}
 use Rattle.aries.specs.declared.state.Progress.{Progress}
 use Rattle.aries.specs.Outcome.{done, refused, passes, fails}
 use Rattle.aries.specs.Judging.{Judging}
+use Rattle.aries.specs.Reader.{readerOf}
 use Rattle.aries.specs.Blocks.{decode}
 use Rattle.aries.specs.Macros.{Body, part, Bodies, bodyAt, bodiesOf, foundIn, mayCome, begunBy, begin, call, runBody}
 
@@ -88,15 +89,15 @@ module _ (j : Judging) (bodies : Bodies) (f : Frame) (n line : ℕ) (g : Progres
 
 -- ---- A block begins
 
-module _ (j : Judging) (line : ℕ) (l : List ℕ) (g : Progress) where
-  pub begin-spent : mayCome j l g ≡ false → begin j line l g ≡ refused 3 line
+module _ (j : Judging) (f : Frame) (line : ℕ) (l : List ℕ) (g : Progress) where
+  pub begin-spent : mayCome j l g ≡ false → begin j f line l g ≡ refused 3 line
   unfolding begin
   begin-spent e = simp e
 
-  pub begin-refused : mayCome j l g ≡ true → (number : ℕ) → decode l ≡ fails number → begin j line l g ≡ refused number line
+  pub begin-refused : mayCome j l g ≡ true → (number : ℕ) → decode (readerOf f) l ≡ fails number → begin j f line l g ≡ refused number line
   unfolding begin
-  begin-refused e number f = simp (e, f)
+  begin-refused e number d = simp (e, d)
 
-  pub begin-done : mayCome j l g ≡ true → (i : Instruction) → decode l ≡ passes i → begin j line l g ≡ done (begunBy l g i)
+  pub begin-done : mayCome j l g ≡ true → (i : Instruction) → decode (readerOf f) l ≡ passes i → begin j f line l g ≡ done (begunBy l g i)
   unfolding begin
-  begin-done e i f = simp (e, f)
+  begin-done e i d = simp (e, d)

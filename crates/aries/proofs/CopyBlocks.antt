@@ -9,42 +9,38 @@ use Rattle.aries.specs.declared.block.Block.{Block}
 use Rattle.aries.specs.declared.block.Instruction.{Instruction}
 use Rattle.aries.specs.declared.job.Job.{Job}
 use Rattle.aries.specs.declared.point.Point.{Point}
+use Rattle.aries.specs.declared.reader.Reader.{Reader}
 use Rattle.aries.specs.declared.setup.Sheet.{Sheet}
 use Rattle.aries.specs.declared.setup.Setup.{Setup}
 use Rattle.aries.specs.declared.setup.Stage.{Stage}
 use Rattle.aries.specs.declared.setup.Program.{Program}
 use Rattle.aries.specs.declared.state.Progress.{Progress}
-use Rattle.aries.specs.Outcome.{Out, done, _>>=_, need, passes}
+use Rattle.aries.specs.Outcome.{Out, _>>=_, need, passes}
 use Rattle.aries.specs.Hits.{Made}
 use Rattle.aries.specs.Judging.{Judging, limits}
+use Rattle.aries.specs.Reader.{readerOf}
 use Rattle.aries.specs.Blocks.{decode}
 use Rattle.aries.specs.Moves.{_⊕_}
-use Rattle.aries.specs.Macros.{Begun, isCounted, mayCome, begun, begunBy, begin}
-use Rattle.aries.specs.Setup.{referenceOf}
+use Rattle.aries.specs.Macros.{Begun, isCounted, begun}
+use Rattle.aries.specs.Setup.{ordinaryFrame, referenceOf}
 use Rattle.aries.specs.Program.{withProgress, inPlace, carryOutside, carryOut, isStoring, passOver, runBlockOutside}
 use Rattle.aries.specs.CopyRuns.{run, movedSheet}
 use Rattle.aries.specs.CopyBlocks.{CopyLinesRun, Reached, start, next, Ordinary, ReachedOrdinary, OriginMoves}
 use Rattle.aries.proofs.Points.{⊕-swap}
+use Rattle.aries.proofs.Calls.{begin-done}
 use Rattle.aries.proofs.Kept.{runLineOutside-keeps}
 
--- a block that may come and is decoded begins
-begins :
-    (j : Judging) (line : ℕ) (l : List ℕ) (g : Progress) (i : Instruction) → mayCome j l g ≡ true → decode l ≡ passes i
-    → begin j line l g ≡ done (begunBy l g i)
-unfolding begin
-begins j line l g i may e = simp (may, e)
-
 -- a line that decodes is not blank
-pub not-blank : (i : Instruction) → decode [] ≡ passes i → ⊥
+pub not-blank : (r : Reader) (i : Instruction) → decode r [] ≡ passes i → ⊥
 unfolding decode
-not-blank i e = let z : _≡_ {A = ℕ} 0 1 = cc in omega arith
+not-blank r i e = let z : _≡_ {A = ℕ} 0 1 = cc in omega arith
 
 pub copy-lines-run : CopyLinesRun
 unfolding runBlockOutside carryOut carryOutside run
-copy-lines-run text after line [] ls p i k running may e b = absurd (not-blank i e)
+copy-lines-run text after line [] ls p i k running may e b = absurd (not-blank (readerOf (ordinaryFrame (p .setup))) i e)
 copy-lines-run text after line (c ∷ l) ls p i k running may e b =
     ap (λ (t : Stage). elim (isStoring t) as (λ _. Out (Made Program)) [ true ↦ passOver (c ∷ l) p | false ↦ runBlockOutside j text after line (c ∷ l) ls p ]) running
-    ∙ ap (λ (x : Out Begun). _>>=_ x goesOn) (begins j line (c ∷ l) (p .progress) i may e)
+    ∙ ap (λ (x : Out Begun). _>>=_ x goesOn) (begin-done j (ordinaryFrame (p .setup)) line (c ∷ l) (p .progress) may i e)
     ∙ ap₂ (λ (t : Stage) (d : Block). _>>=_ (need (inPlace t d) 7 line) (λ _. carryOut j text after line ls d (withProgress p began))) running b
   where
     j : Judging

@@ -14,6 +14,7 @@ use Rattle.aries.specs.declared.block.Measure.the-variants.{Unchanged}
 use Rattle.aries.specs.declared.block.Instruction.{Instruction}
 use Rattle.aries.specs.declared.machine.Machine.the-variants.{Aries222}
 use Rattle.aries.specs.declared.macros.Macros.{Macros}
+use Rattle.aries.specs.declared.reader.Setting.the-variants.{Hundredths}
 use Rattle.aries.specs.declared.setup.Program.{Program}
 use Rattle.aries.specs.declared.setup.Setup.{Setup}
 use Rattle.aries.specs.declared.setup.Sheet.the-variants.{LaidOut}
@@ -21,12 +22,13 @@ use Rattle.aries.specs.declared.setup.Stage.{Stage}
 use Rattle.aries.specs.declared.setup.Stage.the-variants.{Running, Storing}
 use Rattle.aries.specs.Text.{bytes, lines}
 use Rattle.aries.specs.Outcome.{passes}
+use Rattle.aries.specs.Reader.{readerAt}
 use Rattle.aries.specs.Blocks.{decode}
 use Rattle.aries.specs.Moves.{pointAt, zeroPoint, movedTo, freshState}
 use Rattle.aries.specs.Macros.{noMacros, storing, part, bodiesOf, isCounted}
 use Rattle.aries.specs.Setup.{freshSetup, withMachine, withOrigin}
 use Rattle.aries.specs.Program.{runBlockOutside, freshProgram}
-use Rattle.aries.specs.CopyRuns.{Circumstances, bytesOf, AllAlike}
+use Rattle.aries.specs.CopyRuns.{Circumstances, bytesOf}
 use Rattle.aries.specs.CopyBlocks.{circumstances, Reached, start, next}
 use Rattle.aries.specs.CopyPairs.{ComesTo, sheetBy, job, PairAlike}
 use Rattle.aries.proofs.Calls.{body-missing}
@@ -82,7 +84,7 @@ instructionBy vertical = record { measure = Unchanged; block = Outside (Copy (co
 comes-to :
     (text block : List ℕ) (vertical : Bool)
     → lines text ≡ bytes "G92X600.Y600." ∷ bytes "G98X0Y0I10.J10.P1K1" ∷ bytes "U60" ∷ bytes "X1.Y1.T2" ∷ bytes "V60" ∷ block ∷ bytes "G50" ∷ []
-    → decode block ≡ passes (instructionBy vertical) → isCounted block ≡ true → ComesTo job text vertical (finds text vertical)
+    → decode (readerAt Hundredths) block ≡ passes (instructionBy vertical) → isCounted block ≡ true → ComesTo job text vertical (finds text vertical)
 comes-to text block vertical e d k =
     record {
       at = 51;
@@ -127,7 +129,7 @@ pair-alike =
       by76 = by76;
       alike =
           record {
-            parts = record { machine = refl; state = refl; bodies = same-bodies; part = same-bodies 60 };
+            parts = record { setting = refl; machine = refl; state = refl; bodies = same-bodies; part = same-bodies 60 };
             sheet = refl;
             origin = refl;
             corner = refl;

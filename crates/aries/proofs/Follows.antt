@@ -5,7 +5,6 @@ use mathlib.Core.Path.{_≡_, refl, sym, _∙_, subst}
 use mathlib.Core.Bool.{Bool, true, false, true≢false}
 use mathlib.Core.List.{List, [], _∷_, _++_, map, map-append}
 use Prim.Native.Nat.{ℕ}
-use Rattle.aries.specs.declared.job.Job.{Job}
 use Rattle.aries.specs.declared.point.Point.{Point}
 use Rattle.aries.specs.declared.state.Waiting.{Waiting}
 use Rattle.aries.specs.declared.state.Waiting.the-variants.{Unset, At}
@@ -37,9 +36,9 @@ movedState v s =
       memories = s .memories;
     }
 
--- the origin, whatever the job
-abbrev pub movedFrame : Point → Job → Frame → Frame
-movedFrame v job f = record { job = job; machine = f .machine; origin = f .origin ⊕ v }
+-- the origin, whatever the places of the list; the setting stays
+abbrev pub movedFrame : Point → ℕ → Frame → Frame
+movedFrame v places f = record { job = record { setting = f .job .setting; places = places }; machine = f .machine; origin = f .origin ⊕ v }
 
 -- ---- A state with counts
 

@@ -1,5 +1,5 @@
 -- A property of the setup that G92, G93 and G98 keep is kept by every line outside bodies.
-use mathlib.Core.Path.{_≡_, refl, sym, ap, _∙_, subst}
+use mathlib.Core.Path.{_≡_, sym, subst}
 use mathlib.Core.Bool.{Bool, true, false}
 use mathlib.Core.List.{List, [], _∷_}
 use Prim.Native.Nat.{ℕ}
@@ -111,7 +111,7 @@ module _ (P : Setup → Type 0) where
         → Keeps P (runBlockOutside j text next line l ls p)
     unfolding runBlockOutside
     runBlockOutside-keeps j text next line l ls p o =
-        keeps-bind (begin j line l (p .progress)) _ λ b.
+        keeps-bind (begin j (ordinaryFrame (p .setup)) line l (p .progress)) _ λ b.
         keeps-bind (need (inPlace (p .stage) (b .block)) 7 line) _ λ _.
         carryOut-keeps j text next line ls (withProgress p (b .progress)) o (b .block)
 

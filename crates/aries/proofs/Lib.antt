@@ -25,6 +25,8 @@ pub mod CopyPairs
 -- What is proved of refusals.
 pub mod Sound
 pub mod Refusals
+-- What is proved of settings.
+pub mod Settings
 -- Laws that the functions' proofs cite.
 pub mod Advanced
 pub mod Carried

@@ -5,7 +5,7 @@ use mathlib.Core.Bool.{Bool, true, false}
 use mathlib.Core.Option.{Option, none, some}
 use Prim.Native.Nat.{ℕ, _-_}
 use native.Mathlib.Omega.{arith}
-use Rattle.aries.specs.declared.job.Job.{Job}
+use Rattle.aries.specs.declared.reader.Setting.{Setting}
 use Rattle.aries.specs.declared.machine.Machine.{Machine}
 use Rattle.aries.specs.declared.point.Point.{Point}
 use Rattle.aries.specs.declared.state.State.{State}
@@ -27,11 +27,11 @@ use Rattle.aries.proofs.BodyRuns.{Bounds, unlimited, runBody-follows}
 -- ---- Bounds judged or not
 
 -- whatever is judged, against nothing judged
-bounds-dropped : (j : Judging) (v : Point) (job : Job) → Bounds ⊥ j false v job
-bounds-dropped j v job =
+bounds-dropped : (j : Judging) (v : Point) (places : ℕ) → Bounds ⊥ j false v places
+bounds-dropped j v places =
     record {
       nearness = λ p. go (judged (j .bounds) (near (p ⊕ v)));
-      coverage = λ f p. go (judged (j .bounds) (inRange (movedFrame v job f) (p ⊕ v)));
+      coverage = λ f p. go (judged (j .bounds) (inRange (movedFrame v places f) (p ⊕ v)));
       reach = λ t. go (judged (j .bounds) t);
     }
   where
@@ -40,8 +40,8 @@ bounds-dropped j v job =
     go false = dropped (λ i. i)
 
 -- against the same bounds, at the same place
-bounds-alike : (j : Judging) (job : Job) → Bounds (Unit {0}) j (j .bounds) zeroPoint job
-bounds-alike j job = record { nearness = λ p. same near p; coverage = λ f p. same (inRange f) p; reach = λ t. alike }
+bounds-alike : (j : Judging) (places : ℕ) → Bounds (Unit {0}) j (j .bounds) zeroPoint places
+bounds-alike j places = record { nearness = λ p. same near p; coverage = λ f p. same (inRange f) p; reach = λ t. alike }
   where
     same : (test : Point → Bool) (p : Point) → Looser (Unit {0}) (judged (j .bounds) (test (p ⊕ zeroPoint))) (judged (j .bounds) (test p))
     same test p = subst (λ (q : Point). Looser (Unit {0}) (judged (j .bounds) (test q)) (judged (j .bounds) (test p))) (sym (⊕-zero p)) alike
@@ -58,34 +58,46 @@ ownFrom c n = partAt c unjudged zeroPoint n
 
 -- a run has the same part as itself
 pub same-part : (c : Circumstances) → SamePart c c
-same-part c = record { machine = refl; state = refl; bodies = λ n. refl; part = refl }
+same-part c = record { setting = refl; machine = refl; state = refl; bodies = λ n. refl; part = refl }
 
 pub parts-turned : {c d : Circumstances} → SamePart c d → SamePart d c
-parts-turned r = record { machine = sym (r .machine); state = sym (r .state); bodies = λ n. sym (r .bodies n); part = sym (r .part) }
+parts-turned r =
+    record {
+      setting = sym (r .setting);
+      machine = sym (r .machine);
+      state = sym (r .state);
+      bodies = λ n. sym (r .bodies n);
+      part = sym (r .part);
+    }
 
 module _ (c o : Circumstances) (same : SamePart c o) where
   -- the part of one run at a moved place, beside that of the other
   part-follows :
-      {E : Type 0} (j : Judging) (bounds : Bool) (v q : Point) (n n′ : Counts) → Bounds E j bounds v (c .setup .job)
+      {E : Type 0} (j : Judging) (bounds : Bool) (v q : Point) (n n′ : Counts) → Bounds E j bounds v (c .setup .job .places)
       → Follows E j v n n′ (partAt c j (q ⊕ v) n) (partAt o (unlimited bounds) q n′)
   unfolding runBody
   part-follows {E} j bounds v q n n′ w =
-      subst₂
-      (λ (m : Machine) (s : State). Follows E j v n n′ (called j c (c .bodies (c .part)) (record { job = c .setup .job; machine = m; origin = q ⊕ v }) (progress (copyStart s (q ⊕ v)) n)) (partAt o (unlimited bounds) q n′))
-      (sym (same .machine))
-      (sym (same .state))
-      (go (c .bodies (c .part)) (o .bodies (o .part)) (same .part))
+      subst (λ (t : Setting). comes t (c .setup .machine) (c .before .state)) (sym (same .setting))
+      (subst₂ (comes (o .setup .job .setting)) (sym (same .machine)) (sym (same .state))
+      (go (c .bodies (c .part)) (o .bodies (o .part)) (same .part)))
     where
+      -- the part of c comes out so at a setting, on a machine, from a state
+      comes : Setting → Machine → State → Type 0
+      comes t m s =
+          Follows E j v n n′
+          (called j c (c .bodies (c .part)) (record { job = record { setting = t; places = c .setup .job .places }; machine = m; origin = q ⊕ v }) (progress (copyStart s (q ⊕ v)) n))
+          (partAt o (unlimited bounds) q n′)
+
       go :
           (x y : Option Body) → bytesOf x ≡ bytesOf y
           → Follows E j v n n′
-          (called j c x (movedFrame v (c .setup .job) (frameAt (ordinaryFrame (o .setup)) q)) (progress (copyStart (o .before .state) (q ⊕ v)) n))
+          (called j c x (movedFrame v (c .setup .job .places) (frameAt (ordinaryFrame (o .setup)) q)) (progress (copyStart (o .before .state) (q ⊕ v)) n))
           (called (unlimited bounds) o y (frameAt (ordinaryFrame (o .setup)) q) (progress (copyStart (o .before .state) q) n′))
       go none none e = refusals
       go none (some b) e = let z : _≡_ {A = ℕ} 0 1 = cc in absurd (omega arith)
       go (some a) none e = let z : _≡_ {A = ℕ} 0 1 = cc in absurd (omega arith)
       go (some a) (some b) e =
-          runBody-follows j bounds v (c .setup .job) w (c .bodies) (o .bodies) (same .bodies) (mostCalls - 1) (frameAt (ordinaryFrame (o .setup)) q) a b
+          runBody-follows j bounds v (c .setup .job .places) w (c .bodies) (o .bodies) (same .bodies) (mostCalls - 1) (frameAt (ordinaryFrame (o .setup)) q) a b
           (let h : some (a .bytes) ≡ some (b .bytes) = e in cc) (copyStart (o .before .state) q) n n′
 
   -- where it is accepted, it is the own run moved
@@ -93,7 +105,7 @@ module _ (c o : Circumstances) (same : SamePart c o) where
   unfolding runBody
   part-own j p n n′ =
       subst (λ (q : Point). Follows ⊥ j p n n′ (partAt c j q n) (ownFrom o n′)) (zero-⊕ p)
-      (part-follows j false p zeroPoint n n′ (bounds-dropped j p (c .setup .job)))
+      (part-follows j false p zeroPoint n n′ (bounds-dropped j p (c .setup .job .places)))
 
   -- it is accepted where it is by bounds alone and what it counts fits
   pub part-bounds :
@@ -102,7 +114,7 @@ module _ (c o : Circumstances) (same : SamePart c o) where
   unfolding runBody
   part-bounds j p n n′ =
       subst (λ (q : Point). Follows (Unit {0}) j zeroPoint n n′ (partAt c j q n) (partAt o (unlimited (j .bounds)) p n′)) (⊕-zero p)
-      (part-follows j (j .bounds) zeroPoint p n n′ (bounds-alike j (c .setup .job)))
+      (part-follows j (j .bounds) zeroPoint p n n′ (bounds-alike j (c .setup .job .places)))
 
 -- ---- Runs that are compared
 

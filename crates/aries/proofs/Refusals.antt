@@ -38,6 +38,7 @@ use Rattle.aries.specs.Moves.{_⊕_}
 use Rattle.aries.specs.Macros.{Body, noMacros, bodyAt, bodiesOf, storing, part, characters, mostCalls, runBody, call, carry, begin}
 use Rattle.aries.specs.Setup.{referenceOf, withOrigin, setOrigin, offsetBy, ordinaryFrame}
 use Rattle.aries.specs.Bodies.{bodySize, mostCharacters, runsFirst, firstRun, bodyFrom, storedAt, Store, withStored, openBody}
+use Rattle.aries.specs.Reader.{settingOf, readerOf}
 use Rattle.aries.specs.Program.{withProgress, withStore, atStage, freshProgram, inPlace, started, settled, carryOutside, carryOut, isStoring, passOver, runBlockOutside, runLineOutside, runFrom, isEnded, noStray, perform, expand}
 use Rattle.aries.specs.Refusals.{RefusalOf, RefusalsNamed}
 use Rattle.aries.proofs.LineCounts.{lines-some, lines-take, lines-dense, lines-next, stray-inside}
@@ -110,7 +111,7 @@ module _ (last : ℕ) (text : List ℕ) where
         → Sound last (λ (r : Store). StoreOf last text (r .macros)) (openBody j text n start line ls s st)
     unfolding openBody
     openBody-sound n start ls s st k a =
-        sound-given Any (bodySize n ls) 9 refl h (any (bodySize n ls)) λ size _.
+        sound-given Any (bodySize (readerOf (ordinaryFrame s)) n ls) 9 refl h (any (bodySize (readerOf (ordinaryFrame s)) n ls)) λ size _.
         let b = bodyFrom-of start size a in
         sound-need (leb (characters (storedAt (st .macros) n start size line)) mostCharacters) 12 refl h
         (sound-map (withStored (storedAt (st .macros) n start size line)) _
@@ -183,7 +184,7 @@ module _ (last : ℕ) (text : List ℕ) where
     runBlockOutside-sound : (l : List ℕ) (p : Program) → Held p → Sound last Held (runBlockOutside j text next line l ls p)
     unfolding runBlockOutside
     runBlockOutside-sound l p k =
-        sound-bind (begin j line l (p .progress)) _ (begin-proper j line h l (p .progress)) λ b _.
+        sound-bind (begin j (ordinaryFrame (p .setup)) line l (p .progress)) _ (begin-proper j (ordinaryFrame (p .setup)) line h l (p .progress)) λ b _.
         sound-need (inPlace (p .stage) (b .block)) 7 refl h (carryOut-sound (b .block) (withProgress p (b .progress)) k)
 
     runLineOutside-sound : (l : List ℕ) (p : Program) → Held p → Sound last Held (runLineOutside j text next line l ls p)
@@ -273,9 +274,9 @@ module _ (text : List ℕ) (x : Out (List Hit)) where
 
 pub refusals-named : RefusalsNamed
 unfolding expand
-refusals-named text numbers number line e =
+refusals-named setting text numbers number line e =
     refusal-of text _ (within 1 longest (length text)) number line
     (λ w.
     let some = lines-some text (within-bounds 1 longest (length text) w .0) in
-    noStray-proper text _ (perform-proper (length (lines text)) (lending numbers) (withoutSpaces text) _ (record { from = some; to = omega arith }) (lines-dense text)))
+    noStray-proper text _ (perform-proper (length (lines text)) (lending (settingOf setting) numbers) (withoutSpaces text) _ (record { from = some; to = omega arith }) (lines-dense text)))
     e

@@ -15,8 +15,11 @@ use Rattle.aries.specs.declared.block.Block.the-variants as Block
 use Rattle.aries.specs.declared.block.Axes.{Axes}
 use Rattle.aries.specs.declared.block.Copies.{Copies}
 use Rattle.aries.specs.declared.block.Instruction.{Instruction}
+use Rattle.aries.specs.declared.block.Kind.{Kind}
 use Rattle.aries.specs.declared.block.Pattern.{Pattern}
 use Rattle.aries.specs.declared.point.Point.{Point}
+use Rattle.aries.specs.declared.reader.Reader.{Reader}
+use Rattle.aries.specs.declared.reader.Setting.{Setting}
 use Rattle.aries.specs.declared.setup.Sheet.{Sheet}
 use Rattle.aries.specs.declared.setup.Sheet.the-variants.{Plain, LaidOut}
 use Rattle.aries.specs.declared.setup.Setup.{Setup}
@@ -29,9 +32,10 @@ use Rattle.aries.specs.Test.{within}
 use Rattle.aries.specs.Outcome.{Out, done, refused, _>>=_, need, given, passes, fails, inLine}
 use Rattle.aries.specs.Text.{lines}
 use Rattle.aries.specs.Words.{LetterWord, words}
-use Rattle.aries.specs.ByLetter.{Words, byLetter}
+use Rattle.aries.specs.Reader.{readerOf}
+use Rattle.aries.specs.ByLetter.{Letters, Words, byLetter}
 use Rattle.aries.specs.Forms.{inPlaces, kindOf, isListed}
-use Rattle.aries.specs.Numbers.{isRanged}
+use Rattle.aries.specs.Numbers.{inHundredths, lengthsFit, isRanged}
 use Rattle.aries.specs.Blocks.{instructionOf, decodeWords, decoded, decode}
 use Rattle.aries.specs.Hits.{Made, adding, andThen, mapAfter}
 use Rattle.aries.specs.Judging.{Judging, room, judged, near}
@@ -184,22 +188,31 @@ module _ {last : ℕ} where
 
   -- ---- A line begins
 
-  decoded-proper : (line : ℕ) → LineOf last line → (o : Option (List LetterWord)) → Proper last Any (inLine line (decoded o))
+  decoded-proper : (r : Reader) (line : ℕ) → LineOf last line → (o : Option (List LetterWord)) → Proper last Any (inLine line (decoded r o))
   unfolding decodeWords
-  decoded-proper line h none = record { answered = (refl, h) }
-  decoded-proper line h (some ws) = go (inPlaces ws && isListed w (kindOf w)) (isRanged (w .letters) (kindOf w))
+  decoded-proper r line h none = record { answered = (refl, h) }
+  decoded-proper r line h (some ws) = go (inPlaces ws && isListed w k) (lengthsFit s k (w .letters) && isRanged m k)
     where
       w : Words
       w = byLetter ws
 
-      go : (listed ranged : Bool) → Proper last Any (inLine line (cond listed (cond ranged (passes (instructionOf w)) (fails 6)) (fails 5)))
+      k : Kind
+      k = kindOf w
+
+      s : Setting
+      s = r .setting
+
+      m : Letters
+      m = inHundredths s k (w .letters)
+
+      go : (listed ranged : Bool) → Proper last Any (inLine line (cond listed (cond ranged (passes (instructionOf k (w .measure) m)) (fails 6)) (fails 5)))
       go false ranged = record { answered = (refl, h) }
       go true false = record { answered = (refl, h) }
       go true true = record { answered = tt }
 
-  pub begin-proper : (j : Judging) (line : ℕ) → LineOf last line → (l : List ℕ) (g : Progress) → Proper last Any (begin j line l g)
+  pub begin-proper : (j : Judging) (f : Frame) (line : ℕ) → LineOf last line → (l : List ℕ) (g : Progress) → Proper last Any (begin j f line l g)
   unfolding begin decode
-  begin-proper j line h l g = go (mayCome j l g) (inLine line (decoded (words l))) (decoded-proper line h (words l))
+  begin-proper j f line h l g = go (mayCome j l g) (inLine line (decoded (readerOf f) (words l))) (decoded-proper (readerOf f) line h (words l))
     where
       go :
           (t : Bool) (x : Out Instruction) → Proper last Any x
@@ -220,7 +233,7 @@ module _ {last : ℕ} where
     runLine-sound : (line : ℕ) → LineOf last line → (l : List ℕ) (g : Progress) → Sound last Any (runLine j calls f line l g)
     unfolding runBlock
     runLine-sound line h [] g = sound-done tt
-    runLine-sound line h (c ∷ l) g = sound-bind (begin j line (c ∷ l) g) _ (begin-proper j line h (c ∷ l) g) (λ b _. carry-sound line h (b .block) (b .progress))
+    runLine-sound line h (c ∷ l) g = sound-bind (begin j f line (c ∷ l) g) _ (begin-proper j f line h (c ∷ l) g) (λ b _. carry-sound line h (b .block) (b .progress))
 
     runLines-sound : (line : ℕ) (ls : List (List ℕ)) (g : Progress) → 1 ≤ line → line + length ls ≤ suc last → Sound last Any (runLines j calls f line ls g)
     unfolding runLines

@@ -22,19 +22,22 @@ use Rattle.aries.specs.declared.block.Outside.{Outside}
 use Rattle.aries.specs.declared.block.Outside.the-variants as outside
 use Rattle.aries.specs.declared.block.Block.{Block}
 use Rattle.aries.specs.declared.block.Block.the-variants as Block
+use Rattle.aries.specs.declared.block.Measure.{Measure}
 use Rattle.aries.specs.declared.block.Instruction.{Instruction}
+use Rattle.aries.specs.declared.reader.Setting.{Setting}
+use Rattle.aries.specs.declared.reader.Reader.{Reader}
 use Rattle.aries.specs.Letters.{letterA, letterB, letterD, letterI, letterJ, letterK, letterM, letterP, letterQ, letterT, letterU, letterV, letterW, letterX, letterY}
 use Rattle.aries.specs.Outcome.{Checked, passes, fails}
 use Rattle.aries.specs.Words.{LetterWord, words}
 use Rattle.aries.specs.ByLetter.{lookup, mCodes, Letters, at, has, Words, codeOf, byLetter}
 use Rattle.aries.specs.Forms.{inPlaces, kindOf, isListed}
-use Rattle.aries.specs.Numbers.{lengthOf, isRanged}
+use Rattle.aries.specs.Numbers.{inHundredths, lengthsFit, isRanged}
 
 -- ---- What a block asks for
 
--- a length or an angle; 0 if it is absent
+-- a length or an angle, in hundredths; 0 if it is absent
 abbrev pub number : Letters → ℕ → ℤ
-number w letter = lengthOf (at w letter)
+number w letter = at w letter .value
 
 -- the size of a length of G98, which 6 has found not negative
 abbrev pub size : Letters → ℕ → ℕ
@@ -99,7 +102,6 @@ mBlock n = Block.Direct (lookup mCodes n direct.Idle)
 
 -- the block of a kind (5 has refused the unknown kind)
 unfoldable pub blockOf : Letters → Kind → Block
-unfolding lengthOf
 blockOf w G26 = patternBlock w (circlePattern w)
 blockOf w G28 = patternBlock w (linePattern w)
 blockOf w G29 = patternBlock w (arcPattern w)
@@ -122,25 +124,30 @@ blockOf w LetterV = Block.Outside (outside.Close (count w letterV))
 blockOf w LetterW = Block.Call (count w letterW)
 blockOf w Unknown = Block.Direct direct.Idle
 
--- what a block asks for, with its G90 or G91
-abbrev pub instructionOf : Words → Instruction
-instructionOf w = record { measure = w .measure; block = blockOf (w .letters) (kindOf w) }
+-- what a block of a kind asks for, with its G90 or G91, from words in hundredths
+abbrev pub instructionOf : Kind → Measure → Letters → Instruction
+instructionOf k m w = record { measure = m; block = blockOf w k }
+
+-- 6: at setting 0 no length or angle passes the limit; and all numbers, lengths and angles in hundredths, are in their ranges
+abbrev pub ranged : Setting → Kind → Measure → Letters → Checked Instruction
+ranged s k m w =
+    let h : Letters = inHundredths s k w in
+    cond (lengthsFit s k w && isRanged h k) (passes (instructionOf k m h)) (fails 6)
 
 -- the instruction of a block from its words: 5, then 6
-unfoldable pub decodeWords : List LetterWord → Checked Instruction
-unfolding byLetter inPlaces kindOf isListed isRanged blockOf
-decodeWords ws =
+unfoldable pub decodeWords : Reader → List LetterWord → Checked Instruction
+unfolding byLetter inPlaces kindOf isListed inHundredths lengthsFit isRanged blockOf
+decodeWords r ws =
     let w : Words = byLetter ws in
-    cond (inPlaces ws && isListed w (kindOf w))
-    (cond (isRanged (w .letters) (kindOf w)) (passes (instructionOf w)) (fails 6))
-    (fails 5)
+    let k : Kind = kindOf w in
+    cond (inPlaces ws && isListed w k) (ranged (r .setting) k (w .measure) (w .letters)) (fails 5)
 
 -- 4, and then the words
-abbrev pub decoded : Option (List LetterWord) → Checked Instruction
-decoded none = fails 4
-decoded (some ws) = decodeWords ws
+abbrev pub decoded : Reader → Option (List LetterWord) → Checked Instruction
+decoded r none = fails 4
+decoded r (some ws) = decodeWords r ws
 
 -- the instruction of a line: 4, then 5 and 6
-unfoldable pub decode : List ℕ → Checked Instruction
+unfoldable pub decode : Reader → List ℕ → Checked Instruction
 unfolding words decodeWords
-decode bs = decoded (words bs)
+decode r bs = decoded r (words bs)

@@ -16,9 +16,11 @@ use Rattle.aries.specs.declared.setup.Sheet.{Sheet}
 use Rattle.aries.specs.declared.setup.Sheet.the-variants.{Plain, LaidOut}
 use Rattle.aries.specs.declared.setup.Setup.{Setup}
 use Rattle.aries.specs.declared.state.Progress.{Progress}
-use Rattle.aries.specs.Outcome.{Out, done, refused, _>>=_, need, given, Checked, passes, fails}
+use Rattle.aries.specs.Outcome.{Out, _>>=_, need, given, Checked, passes, fails}
 use Rattle.aries.specs.Letters.{letterU, letterV}
 use Rattle.aries.specs.Text.{startsWith}
+use Rattle.aries.specs.declared.reader.Reader.{Reader}
+use Rattle.aries.specs.Reader.{readerOf}
 use Rattle.aries.specs.Blocks.{decode}
 use Rattle.aries.specs.Hits.{Made, noHit, mapAfter}
 use Rattle.aries.specs.Judging.{Judging}
@@ -47,9 +49,9 @@ isCloseOf n (fails number) = false
 isCloseOf n (passes i) = closes n (i .block)
 
 -- a U line's own V: a line of one valid V word with the same number and nothing else
-unfoldable pub isOwnClose : ℕ → List ℕ → Bool
+unfoldable pub isOwnClose : Reader → ℕ → List ℕ → Bool
 unfolding decode
-isOwnClose n l = isCloseOf n (decode l)
+isOwnClose r n l = isCloseOf n (decode r l)
 
 -- a U or V line
 abbrev pub isMark : List ℕ → Bool
@@ -60,12 +62,12 @@ longer k none = none
 longer k (some n) = some (k + n)
 
 -- the bytes of the lines before the next U or V line, line feeds included, if that line is the own V of number n
-unfoldable pub bodySize : ℕ → List (List ℕ) → Option ℕ
+unfoldable pub bodySize : Reader → ℕ → List (List ℕ) → Option ℕ
 unfolding isOwnClose
-bodySize n [] = none
-bodySize n (l ∷ ls) = elim (isMark l) [
-  | true ↦ cond (isOwnClose n l) (some 0) none
-  | false ↦ longer (length l + 1) (bodySize n ls)
+bodySize r n [] = none
+bodySize r n (l ∷ ls) = elim (isMark l) [
+  | true ↦ cond (isOwnClose r n l) (some 0) none
+  | false ↦ longer (length l + 1) (bodySize r n ls)
 ]
 
 -- ---- U lines
@@ -107,6 +109,6 @@ withStored m g = record { macros = m; progress = g }
 unfoldable pub openBody : Judging → List ℕ → ℕ → ℕ → ℕ → List (List ℕ) → Setup → Store → Out (Made Store)
 unfolding bodySize firstRun characters part
 openBody j text n start line ls s st = do
-  size ← given (bodySize n ls) 9 line
+  size ← given (bodySize (readerOf (ordinaryFrame s)) n ls) 9 line
   _ ← need (leb (characters (storedAt (st .macros) n start size line)) mostCharacters) 12 line
   mapAfter (withStored (storedAt (st .macros) n start size line)) (firstRun j text (st .macros) n (bodyFrom text start size line) s (st .progress))

@@ -24,7 +24,8 @@ use Rattle.aries.specs.Judging.{limits}
 use Rattle.aries.specs.Blocks.{decode}
 use Rattle.aries.specs.Moves.{_⊕_}
 use Rattle.aries.specs.Macros.{bodiesOf, isCounted, mayCome, begun}
-use Rattle.aries.specs.Setup.{referenceOf}
+use Rattle.aries.specs.Reader.{readerOf}
+use Rattle.aries.specs.Setup.{ordinaryFrame, referenceOf}
 use Rattle.aries.specs.Program.{withProgress, freshProgram, runLineOutside}
 use Rattle.aries.specs.CopyRuns.{Circumstances, run, movedSheet}
 
@@ -46,7 +47,7 @@ circumstances text line k p =
 abbrev pub CopyLinesRun : Type 0
 CopyLinesRun =
     (text : List ℕ) (next line : ℕ) (l : List ℕ) (ls : List (List ℕ)) (p : Program) (i : Instruction) (k : Copies)
-    → p .stage ≡ Running → mayCome (limits (p .setup .job)) l (p .progress) ≡ true → decode l ≡ passes i → i .block ≡ Outside (Copy k)
+    → p .stage ≡ Running → mayCome (limits (p .setup .job)) l (p .progress) ≡ true → decode (readerOf (ordinaryFrame (p .setup))) l ≡ passes i → i .block ≡ Outside (Copy k)
     → runLineOutside (limits (p .setup .job)) text next line l ls p
     ≡ mapAfter (withProgress p) (run (k .vertical) (circumstances text line k (withProgress p (begun (isCounted l) (i .measure) (p .progress)))))
 

@@ -10,12 +10,15 @@ use Rattle.aries.specs.declared.block.Outside.the-variants.{Copy}
 use Rattle.aries.specs.declared.block.Block.the-variants.{Outside}
 use Rattle.aries.specs.declared.block.Instruction.{Instruction}
 use Rattle.aries.specs.declared.job.Job.{Job}
+use Rattle.aries.specs.declared.reader.Setting.the-variants.{Hundredths}
 use Rattle.aries.specs.declared.setup.Program.{Program}
 use Rattle.aries.specs.Outcome.{passes}
 use Rattle.aries.specs.Text.{bytes}
 use Rattle.aries.specs.Judging.{lending}
 use Rattle.aries.specs.Blocks.{decode}
 use Rattle.aries.specs.Macros.{isCounted, begun}
+use Rattle.aries.specs.Reader.{readerOf}
+use Rattle.aries.specs.Setup.{ordinaryFrame}
 use Rattle.aries.specs.Program.{withProgress}
 use Rattle.aries.specs.CopyRuns.{Circumstances, AllAlike}
 use Rattle.aries.specs.CopyBlocks.{circumstances, Reached}
@@ -29,7 +32,7 @@ pub record ComesTo (job : Job) (text : List ℕ) (vertical : Bool) (c : Circumst
   pub program : Program
   pub reached : Reached job text at line (block ∷ after) program
   pub instruction : Instruction
-  pub decoded : decode block ≡ passes instruction
+  pub decoded : decode (readerOf (ordinaryFrame (program .setup))) block ≡ passes instruction
   pub copies : Copies
   pub asks : instruction .block ≡ Outside (Copy copies)
   pub order : copies .vertical ≡ vertical
@@ -42,7 +45,7 @@ sheetBy code = bytes "G92X600.Y600.\nG98X0Y0I10.J10.P1K1\nU60\nX1.Y1.T2\nV60\n" 
 
 -- places for 4,096 hits
 abbrev pub job : Job
-job = lending 16384
+job = lending Hundredths 16384
 
 -- What the G75 block of the one text finds is alike to what the G76 block of the other finds, in all that demand 3 asks for.
 pub record PairAlike : Type 0 where

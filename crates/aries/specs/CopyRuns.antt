@@ -3,18 +3,16 @@
 use mathlib.Core.Path.{_≡_}
 use mathlib.Core.Logic.{_↔_}
 use mathlib.Core.Bool.{Bool, true, false, cond, _||_}
-use mathlib.Core.List.{List, [], _∷_, _++_, map}
+use mathlib.Core.List.{List, [], _++_, map}
 use mathlib.Core.Option.{Option, none, some}
 use Prim.Native.Nat.{ℕ, zero, suc, _+_, _-_, _*_, _/_, _%_}
 use lib.Dec.{eqb}
 use lib.IntN.{ℤ, pos, _+ℤ_, _-ℤ_}
-use Rattle.aries.specs.declared.job.Job.{Job}
 use Rattle.aries.specs.declared.point.Point.{Point}
 use Rattle.aries.specs.declared.block.Layout.{Layout}
 use Rattle.aries.specs.declared.setup.Sheet.{Sheet}
 use Rattle.aries.specs.declared.setup.Sheet.the-variants.{Plain, LaidOut}
 use Rattle.aries.specs.declared.setup.Setup.{Setup}
-use Rattle.aries.specs.declared.state.State.{State}
 use Rattle.aries.specs.declared.state.Progress.{Progress}
 use Rattle.aries.specs.Outcome.{Out, done, refused}
 use Rattle.aries.specs.Hits.{Hit, Made}
@@ -130,9 +128,10 @@ laidOut vertical l c =
 
 -- ---- Runs that are compared
 
--- Two runs of one part, in one state on one machine: the same is stored under each number, whatever the texts are and
--- wherever it stands in them, and the same body under the part's own number.
+-- Two runs of one part, at one setting, in one state on one machine: the same is stored under each number, whatever the
+-- texts are and wherever it stands in them, and the same body under the part's own number.
 pub record SamePart (c d : Circumstances) : Type 0 where
+  pub setting : c .setup .job .setting ≡ d .setup .job .setting
   pub machine : c .setup .machine ≡ d .setup .machine
   pub state : c .before .state ≡ d .before .state
   pub bodies : (n : ℕ) → bytesOf (c .bodies n) ≡ bytesOf (d .bodies n)

@@ -6,12 +6,13 @@ use Prim.Native.Nat.{ℕ, _/_}
 use lib.Dec.{leb, ltb}
 use lib.IntN.{ℤ, natAbs}
 use Rattle.aries.specs.declared.job.Job.{Job}
+use Rattle.aries.specs.declared.reader.Setting.{Setting}
 use Rattle.aries.specs.declared.point.Point.{Point}
 
--- What the caller fixes for a whole text, by lending a list of so many numbers: four are a place, fewer at its end are
--- none.
-abbrev pub lending : ℕ → Job
-lending numbers = record { places = numbers / 4 }
+-- What the caller fixes for a whole text: the setting, and the places of a list of so many numbers that is lent; four are a
+-- place, fewer at its end are none.
+abbrev pub lending : Setting → ℕ → Job
+lending setting numbers = record { setting = setting; places = numbers / 4 }
 
 -- the most blocks (3), whether 15 and 16 are judged, and the places of the lent list (17)
 pub record Judging : Type 0 where
@@ -41,7 +42,7 @@ abbrev pub judged : Bool → Bool → Bool
 judged false test = true
 judged true test = test
 
--- 15: a number is within ±999,999 hundredths
+-- 15, and 6 at setting 0: a number is within ±999,999 hundredths
 abbrev pub farthest : ℕ
 farthest = 999999
 

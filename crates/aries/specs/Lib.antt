@@ -4,6 +4,7 @@ pub mod Outcome
 pub mod Text
 pub mod Letters
 pub mod Words
+pub mod Reader
 pub mod ByLetter
 pub mod Forms
 pub mod Numbers
@@ -25,4 +26,5 @@ pub mod CopyRuns
 pub mod CopyBlocks
 pub mod CopyPairs
 pub mod Refusals
+pub mod Settings
 pub mod Plates

@@ -1,8 +1,8 @@
 -- Macros: the bodies that are stored, and running them. (Document 01, "Macros and layouts"; refusals 3 to 7, 10 and 11.)
-use mathlib.Core.Bool.{Bool, true, false, not, cond, _||_}
+use mathlib.Core.Bool.{Bool, not, cond, _||_}
 use mathlib.Core.List.{List, [], _∷_}
 use mathlib.Core.Option.{Option, none, some}
-use Prim.Native.Nat.{ℕ, zero, suc, _+_, _-_, _≤_}
+use Prim.Native.Nat.{ℕ, zero, suc, _+_, _-_}
 use lib.Dec.{ltb}
 use lib.ListN.{getD, set, take, drop, replicate}
 use Rattle.aries.specs.declared.block.Direct.{Direct}
@@ -19,6 +19,7 @@ use Rattle.aries.specs.declared.state.Progress.{Progress}
 use Rattle.aries.specs.Outcome.{Out, done, refused, _>>=_, need, given, inLine}
 use Rattle.aries.specs.Letters.{letterV}
 use Rattle.aries.specs.Text.{lines, startsWith}
+use Rattle.aries.specs.Reader.{readerOf}
 use Rattle.aries.specs.Numbers.{lastMacro}
 use Rattle.aries.specs.Blocks.{decode}
 use Rattle.aries.specs.Hits.{Made, noHit, andThen}
@@ -125,11 +126,11 @@ abbrev pub begunBy : List ℕ → Progress → Instruction → Begun
 begunBy l g i = record { block = i .block; progress = begun (isCounted l) (i .measure) g }
 
 -- the block of a line begins: 3, then 4 to 6
-unfoldable pub begin : Judging → ℕ → List ℕ → Progress → Out Begun
+unfoldable pub begin : Judging → Frame → ℕ → List ℕ → Progress → Out Begun
 unfolding decode
-begin j line l g = do
+begin j f line l g = do
   _ ← need (mayCome j l g) 3 line
-  i ← inLine line (decode l)
+  i ← inLine line (decode (readerOf f) l)
   done (begunBy l g i)
 
 -- ---- The lines of a body
@@ -137,7 +138,7 @@ begin j line l g = do
 unfoldable pub runBlock : Judging → Calls → Frame → ℕ → List ℕ → Progress → Out (Made Progress)
 unfolding begin carry
 runBlock j call f line l g = do
-  b ← begin j line l g
+  b ← begin j f line l g
   carry j call f line (b .block) (b .progress)
 
 -- a blank line does nothing

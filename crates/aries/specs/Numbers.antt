@@ -1,26 +1,83 @@
 -- Numbers: lengths and angles, whole numbers, and their ranges. (Document 01, "Text, words, units", "Patterns", "Macros and
--- layouts"; refusal 6.)
-use mathlib.Core.Bool.{Bool, not, cond, _&&_, _||_}
+-- layouts"; document 02, §1; refusal 6.)
+use mathlib.Core.Bool.{Bool, true, not, cond, _&&_, _||_}
 use mathlib.Core.List.{List, [], _∷_}
 use Prim.Native.Nat.{ℕ}
-use lib.IntN.{ℤ, pos, natAbs}
+use Prim.Native.String.{String}
+use lib.IntN.{ℤ, pos, natAbs, _*ℤ_}
 use lib.Signed.{ltZ}
+use lib.ListN.{set}
+use Rattle.aries.specs.declared.reader.Setting.{Setting}
+use Rattle.aries.specs.declared.reader.Setting.the-variants.{Hundredths, Millimetres}
 use Rattle.aries.specs.declared.word.Word.{Word}
 use Rattle.aries.specs.declared.block.Kind.{Kind}
 use Rattle.aries.specs.declared.block.Kind.the-variants.{G26, G28, G29, G36, G37, G50, G70, G72, G75, G76, G92, G93, G98, Position, Lone, LetterM, LetterB, LetterU, LetterV, LetterW, Unknown}
-use Rattle.aries.specs.Letters.{letterA, letterB, letterD, letterI, letterJ, letterK, letterN, letterP, letterQ, letterT, letterU, letterV, letterW, letterX, letterY}
+use Rattle.aries.specs.Letters.{letterA, letterB, letterD, letterI, letterJ, letterK, letterN, letterP, letterQ, letterT, letterU, letterV, letterW, letterX, letterY, indexOf}
 use Rattle.aries.specs.Test.{within, every}
+use Rattle.aries.specs.Text.{bytes}
+use Rattle.aries.specs.Judging.{isNear}
 use Rattle.aries.specs.ByLetter.{Letters, at, has, isPlain}
 
--- ---- Numbers (refusal 6)
+-- ---- Lengths and angles
 
--- Lengths and angles without a point count hundredths: decimal point setting 1.
-abbrev pub withoutPoint : ℤ → ℤ
-withoutPoint digits = digits
+-- What a length or an angle without a point counts: at setting 1 hundredths, at setting 0 whole millimetres or degrees.
+abbrev pub withoutPoint : Setting → ℤ → ℤ
+withoutPoint Hundredths digits = digits
+withoutPoint Millimetres digits = pos 100 *ℤ digits
 
--- a length or an angle, in hundredths; a word with a point has them already
-unfoldable pub lengthOf : Word → ℤ
-lengthOf v = cond (v .pointed) (v .value) (withoutPoint (v .value))
+-- a length or an angle in hundredths; a word with a point has them already
+unfoldable pub lengthOf : Setting → Word → ℤ
+lengthOf s v = cond (v .pointed) (v .value) (withoutPoint s (v .value))
+
+-- a word with another number, else as it is
+abbrev pub withValue : Word → ℤ → Word
+withValue v number = record { written = v .written; signed = v .signed; pointed = v .pointed; value = number }
+
+-- a word with its number in hundredths
+abbrev pub wordInHundredths : Setting → Word → Word
+wordInHundredths s v = withValue v (lengthOf s v)
+
+-- the letters of a kind of block that are lengths or angles, by their use: P is an angle in G29 and counts elsewhere
+abbrev pub lengthsOf : Kind → String
+lengthsOf G26 = "IJ"
+lengthsOf G28 = "IJ"
+lengthsOf G29 = "IJP"
+lengthsOf G36 = "IJ"
+lengthsOf G37 = "IJ"
+lengthsOf G50 = ""
+lengthsOf G70 = "XY"
+lengthsOf G72 = "XY"
+lengthsOf G75 = ""
+lengthsOf G76 = ""
+lengthsOf G92 = "XY"
+lengthsOf G93 = "XY"
+lengthsOf G98 = "XYIJD"
+lengthsOf Position = "XY"
+lengthsOf Lone = ""
+lengthsOf LetterM = ""
+lengthsOf LetterB = ""
+lengthsOf LetterU = ""
+lengthsOf LetterV = ""
+lengthsOf LetterW = ""
+lengthsOf Unknown = ""
+
+-- words by letter, with these letters in hundredths
+abbrev pub lettersInHundredths : Setting → Letters → List ℕ → Letters
+lettersInHundredths s w [] = w
+lettersInHundredths s w (l ∷ ls) = lettersInHundredths s (set w (indexOf l) (wordInHundredths s (at w l))) ls
+
+-- the words of a block of a kind, its lengths and angles in hundredths
+unfoldable pub inHundredths : Setting → Kind → Letters → Letters
+unfolding bytes lengthOf
+inHundredths s k w = lettersInHundredths s w (bytes (lengthsOf k))
+
+-- 6: at setting 0 no length or angle, in hundredths, passes ±999,999
+unfoldable pub lengthsFit : Setting → Kind → Letters → Bool
+unfolding bytes lengthOf
+lengthsFit Hundredths k w = true
+lengthsFit Millimetres k w = every (λ l. isNear (lengthOf Millimetres (at w l))) (bytes (lengthsOf k))
+
+-- ---- Ranges
 
 -- kinds of numbers: a length or an angle, one above zero, one not negative; a whole number without sign or point from
 -- one bound to another; a whole number that may have a sign, of a size between the bounds
@@ -32,8 +89,8 @@ pub data Range : Type 0 where
 
 -- a word has a number of a kind
 abbrev pub isOfRange : Range → Word → Bool
-isOfRange aboveZero v = ltZ (pos 0) (lengthOf v)
-isOfRange notNegative v = not (ltZ (lengthOf v) (pos 0))
+isOfRange aboveZero v = ltZ (pos 0) (v .value)
+isOfRange notNegative v = not (ltZ (v .value) (pos 0))
 isOfRange (whole least most) v = isPlain v && within least most (natAbs (v .value))
 isOfRange (signedWhole least most) v = not (v .pointed) && within least most (natAbs (v .value))
 
@@ -69,7 +126,7 @@ layoutSteps = whole 0 99
 abbrev pub copyRanges : List (ℕ × Range)
 copyRanges = (letterW, macroNumber) ∷ (letterQ, whole 1 4) ∷ []
 
--- the letters of a kind of block whose numbers are limited; others are lengths or angles without a limit
+-- the letters of a kind of block whose numbers have a range; others are lengths or angles of any sign
 abbrev pub rangesOf : Kind → List (ℕ × Range)
 rangesOf G26 = (letterI, aboveZero) ∷ (letterK, signedWhole 1 patternMost) ∷ []
 rangesOf G28 = (letterK, whole 1 patternMost) ∷ []
@@ -105,5 +162,4 @@ numberFits w e = not (has w (e .0)) || isOfRange (e .1) (at w (e .0))
 
 -- the numbers of a block are of their kinds and in their ranges
 unfoldable pub isRanged : Letters → Kind → Bool
-unfolding lengthOf
 isRanged w k = every (numberFits w) (rangesOf k) && every (numberFits w) commonRanges

@@ -1,11 +1,16 @@
--- The plates M1 to M11 of document 01, as rows of one list: each text with what the definitions make of it.
+-- The plates M1 to M11 of document 01, as rows of one list: each text with what the definitions make of it; and M1 to M7 for
+-- setting 0.
 use mathlib.Core.Path.{_≡_}
-use mathlib.Core.Bool.{Bool, true, false}
+use mathlib.Core.Bool.{Bool, true, false, not, cond, _&&_}
 use mathlib.Core.List.{List, [], _∷_, map}
 use Prim.Native.Nat.{ℕ}
 use Prim.Native.String.{String}
-use lib.IntN.{ℤ, pos}
+use lib.Dec.{eqb}
+use lib.IntN.{pos}
 use lib.ListN.{length, getD}
+use Rattle.signed.specs.Signed.{eqZ}
+use Rattle.aries.specs.declared.job.Job.{Job}
+use Rattle.aries.specs.declared.reader.Setting.the-variants.{Hundredths}
 use Rattle.aries.specs.declared.setup.Program.{Program}
 use Rattle.aries.specs.Outcome.{Out, done, refused}
 use Rattle.aries.specs.Text.{bytes, lines, withoutSpaces}
@@ -49,8 +54,11 @@ seenStorage (done m) = stored (characters (m .after .macros))
 seenStorage (refused number line) = refusal number line
 
 abbrev pub seen : View → List ℕ → Seen
-seen (hitsAt indexes) text = seenHits indexes (expand text numbers)
-seen storage text = seenStorage (runFrom (limits (lending numbers)) (withoutSpaces text) 0 1 (lines (withoutSpaces text)) (freshProgram (lending numbers)))
+seen (hitsAt indexes) text = seenHits indexes (expand (pos 1) text numbers)
+seen storage text = seenStorage (runFrom (limits job) (withoutSpaces text) 0 1 (lines (withoutSpaces text)) (freshProgram job))
+  where
+    job : Job
+    job = lending Hundredths numbers
 
 unfoldable pub found : Row → Seen
 unfolding expand runFrom bytes characters
@@ -99,6 +107,48 @@ plates =
     ∷ row "G92 X600. Y600.\nU60\nG90X100.Y100.T20\nV60\nG50\n" storage (stored 17)
     ∷ []
 
--- The theorem: every row shows what it says.
+-- The theorem: at setting 1 every row shows what it says.
 abbrev pub PlatesHold : Type 0
 PlatesHold = map found plates ≡ map (λ r. r .expected) plates
+
+-- M1 to M7 in whole millimetres and degrees
+unfoldable pub millimetrePlates : List String
+millimetrePlates =
+    "G92 X600 Y600\nG90 X100 Y100 T2\nG28 I10 J45 K2\nG50\n"
+    ∷ "G92 X600 Y600\nX50 Y50 T2\nG36 I9 P11 J9 K7\nG50\n"
+    ∷ "G92 X600 Y600\nX50 Y50 T2\nG37 I9 P11 J9 K7\nG50\n"
+    ∷ "G92 X600 Y600\nG72 X300 Y200\nG28 I25 J30 K6 T2\nG50\n"
+    ∷ "G92 X600 Y600\nG72 X60 Y60\nG26 I25 J45 K4 T2\nG50\n"
+    ∷ "G92 X600 Y600\nG98 X20 Y100 I250 J150 P1 K1\nU1\nX10 Y10 T2\nV1\nG76 W1 Q4\nG50\n"
+    ∷ "G92 X600 Y600\nG98 X20 Y100 I250 J150 P1 K1\nU1\nX10 Y10 T2\nV1\nG75 W1 Q4\nG50\n" ∷ []
+
+-- two hits are the same
+abbrev pub sameHit : Hit → Hit → Bool
+sameHit h k =
+    eqZ (h .place .x) (k .place .x)
+    && (eqZ (h .place .y) (k .place .y) && (eqb (h .tool) (k .tool) && cond (h .nibble) (k .nibble) (not (k .nibble))))
+
+-- so are all hits of two lists
+abbrev pub sameHits : List Hit → List Hit → Bool
+sameHits [] [] = true
+sameHits [] (k ∷ ks) = false
+sameHits (h ∷ hs) [] = false
+sameHits (h ∷ hs) (k ∷ ks) = sameHit h k && sameHits hs ks
+
+-- two texts are accepted, and have the same hits
+abbrev pub sameList : Out (List Hit) → Out (List Hit) → Bool
+sameList (done hs) (done ks) = sameHits hs ks
+sameList (done hs) (refused number line) = false
+sameList (refused number line) out = false
+
+-- each text at setting 0 and that of its row at setting 1
+unfoldable pub sameLists : List String → List Row → Bool
+unfolding expand bytes
+sameLists [] rows = true
+sameLists (t ∷ ts) [] = false
+sameLists (t ∷ ts) (r ∷ rows) =
+    sameList (expand (pos 0) (bytes t) numbers) (expand (pos 1) (bytes (r .text)) numbers) && sameLists ts rows
+
+-- The theorem: at setting 0 they have the lists that M1 to M7 have at setting 1.
+abbrev pub MillimetresHold : Type 0
+MillimetresHold = sameLists millimetrePlates plates ≡ true

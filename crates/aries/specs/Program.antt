@@ -3,7 +3,7 @@
 use mathlib.Core.Bool.{Bool, true, false, not}
 use mathlib.Core.List.{List, [], _∷_, _++_}
 use mathlib.Core.Option.{Option, none, some}
-use Prim.Native.Nat.{ℕ, zero, suc, _+_, _-_, _*_}
+use Prim.Native.Nat.{ℕ, zero, suc, _+_, _-_}
 use lib.IntN.{ℤ, pos}
 use lib.ListN.{length, replicate}
 use Rattle.aries.specs.declared.answer.Answer.{Answer}
@@ -16,7 +16,6 @@ use Rattle.aries.specs.declared.job.Job.{Job}
 use Rattle.aries.specs.declared.machine.Machine.{Machine}
 use Rattle.aries.specs.declared.machine.Named.{Named}
 use Rattle.aries.specs.declared.machine.Named.the-variants.{As, Neither}
-use Rattle.aries.specs.declared.macros.Macros.{Macros}
 use Rattle.aries.specs.declared.point.Point.{Point}
 use Rattle.aries.specs.declared.setup.Sheet.the-variants.{LaidOut}
 use Rattle.aries.specs.declared.setup.Setup.{Setup}
@@ -30,9 +29,10 @@ use Rattle.aries.specs.Letters.{letterV}
 use Rattle.aries.specs.Text.{longest, strayLine, withoutSpaces, lines, startsWith}
 use Rattle.aries.specs.Hits.{Hit, cells, Made, noHit, andThen, mapAfter}
 use Rattle.aries.specs.Judging.{Judging, lending, limits}
+use Rattle.aries.specs.Reader.{settingOf}
 use Rattle.aries.specs.Machine.{named}
 use Rattle.aries.specs.Moves.{movedTo, withState, freshProgress}
-use Rattle.aries.specs.Macros.{noMacros, bodiesOf, mostCalls, call, carry, Begun, begin}
+use Rattle.aries.specs.Macros.{noMacros, bodiesOf, mostCalls, call, carry, begin}
 use Rattle.aries.specs.Setup.{freshSetup, withMachine, setOrigin, offsetBy, ordinaryFrame}
 use Rattle.aries.specs.Layouts.{copyPart}
 use Rattle.aries.specs.Bodies.{Store, withStored, openBody}
@@ -142,7 +142,7 @@ passOver l p = elim (startsWith letterV l) [ true ↦ noHit (atStage Running p) 
 unfoldable pub runBlockOutside : Judging → List ℕ → ℕ → ℕ → List ℕ → List (List ℕ) → Program → Out (Made Program)
 unfolding begin carryOut
 runBlockOutside j text next line l ls p = do
-  b ← begin j line l (p .progress)
+  b ← begin j (ordinaryFrame (p .setup)) line l (p .progress)
   _ ← need (inPlace (p .stage) (b .block)) 7 line
   carryOut j text next line ls (b .block) (withProgress p (b .progress))
 
@@ -182,13 +182,14 @@ perform job text last = do
   _ ← need (isEnded (m .after .stage)) 7 last
   done (m .hits)
 
--- The hits of a text, or its refusal, with a lent list of so many numbers. 1 and 2 look at the whole text first.
-unfoldable pub expand : List ℕ → ℕ → Out (List Hit)
+-- The hits of a text, or its refusal, at a setting that the caller states by a number, with a lent list of so many numbers. 1
+-- and 2 look at the whole text first.
+unfoldable pub expand : ℤ → List ℕ → ℕ → Out (List Hit)
 unfolding perform strayLine withoutSpaces
-expand text numbers = do
+expand setting text numbers = do
   _ ← need (within 1 longest (length text)) 1 0
   _ ← noStray (strayLine 1 text)
-  perform (lending numbers) (withoutSpaces text) (length (lines text))
+  perform (lending (settingOf setting) numbers) (withoutSpaces text) (length (lines text))
 
 -- ---- The answer
 

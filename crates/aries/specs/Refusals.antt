@@ -3,6 +3,7 @@ use mathlib.Core.Path.{_≡_}
 use mathlib.Core.Logic.{_↔_}
 use mathlib.Core.List.{List}
 use Prim.Native.Nat.{ℕ, _≤_}
+use lib.IntN.{ℤ}
 use lib.ListN.{length}
 use Rattle.aries.specs.Outcome.{refused}
 use Rattle.aries.specs.Text.{lines}
@@ -14,6 +15,6 @@ pub record RefusalOf (text : List ℕ) (number line : ℕ) : Type 0 where
   pub lineless : (line ≡ 0) ↔ (number ≡ 1)
   pub lined : (number ≡ 1 → ⊥) → (1 ≤ line) × (line ≤ length (lines text))
 
--- Every refusal of a text, with a lent list of so many numbers, is such a one.
+-- Every refusal of a text, at every setting and with a lent list of so many numbers, is such a one.
 abbrev pub RefusalsNamed : Type 0
-RefusalsNamed = (text : List ℕ) (numbers number line : ℕ) → expand text numbers ≡ refused number line → RefusalOf text number line
+RefusalsNamed = (setting : ℤ) (text : List ℕ) (numbers number line : ℕ) → expand setting text numbers ≡ refused number line → RefusalOf text number line

@@ -1,7 +1,7 @@
 ghost use mathlib.Core.Path.{_≡_};
 ghost use Rattle.aries.specs.WidePoints.{pointOf, located};
 
-// The largest size of a coordinate, in hundredths.
+// The largest size of a coordinate, and at setting 0 of a length or an angle, in hundredths.
 pub const FARTHEST: u32 = 999_999;
 
 // A point of the sheet in G92 coordinates, in hundredths of a millimetre.

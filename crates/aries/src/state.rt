@@ -4,6 +4,7 @@ use crate::job::Job;
 use crate::machine::Machine;
 use crate::point::Point;
 use crate::point::WidePoint;
+use crate::reader::Reader;
 ghost use mathlib.Core.Path.{_≡_};
 ghost use mathlib.Core.Bool.{true};
 ghost use Prim.Native.Nat.{_-_, _<_};
@@ -27,6 +28,7 @@ ghost use Rattle.aries.specs.Macros.{begun};
 ghost use Rattle.aries.specs.Judging.{mostBlocks};
 ghost use Rattle.aries.specs.Machine.{inRange};
 ghost use Rattle.aries.specs.WidePoints.{pointOf};
+ghost use Rattle.aries.specs.Reader.{readerOf};
 ghost use Rattle.aries.specs.Setup.{frameAt};
 
 // The pattern origin that G72 set and no pattern has used up yet.
@@ -209,6 +211,15 @@ impl Frame {
     {
         self.origin = origin;
         self
+    }
+
+    // What blocks are read by: the setting of the job.
+    pub fn reader(self) -> Reader
+        ensures { λ r. ⌜ r ≡ readerOf self ⌝ }
+    {
+        let job = self.job;
+        let setting = job.setting;
+        Reader { setting }
     }
 
     // Whether a place is in the punching range.

@@ -1,8 +1,9 @@
 ghost use Rattle.aries.specs.CopyRuns.{BothOrNeither, EqualExactlyWhen, LayoutSentence, ReferenceMoves};
 ghost use Rattle.aries.specs.CopyBlocks.{CopyLinesRun, ReachedOrdinary, OriginMoves};
 ghost use Rattle.aries.specs.CopyPairs.{PairAlike};
-ghost use Rattle.aries.specs.Plates.{PlatesHold};
+ghost use Rattle.aries.specs.Plates.{PlatesHold, MillimetresHold};
 ghost use Rattle.aries.specs.Refusals.{RefusalsNamed};
+ghost use Rattle.aries.specs.Settings.{BaseKept, SettingHolds, PointedAlike};
 
 // What is proved of the definitions alone. Each function does nothing; its contract is the theorem.
 
@@ -54,4 +55,24 @@ pub fn refusals_named()
 // The plates of document 01, as rows of one list.
 pub fn plates_hold()
     ensures { λ _. ⌜ PlatesHold ⌝ }
+{}
+
+// Those of them in whole millimetres, at setting 0.
+pub fn millimetres_hold()
+    ensures { λ _. ⌜ MillimetresHold ⌝ }
+{}
+
+// At every setting number but 0 a text means what document 01 says.
+pub fn base_kept()
+    ensures { λ _. ⌜ BaseKept ⌝ }
+{}
+
+// Wherever a program comes, blocks are read at the setting that the caller stated.
+pub fn setting_holds()
+    ensures { λ _. ⌜ SettingHolds ⌝ }
+{}
+
+// A number with a point means the same at both settings.
+pub fn pointed_alike()
+    ensures { λ _. ⌜ PointedAlike ⌝ }
 {}

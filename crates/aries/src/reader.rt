@@ -1,0 +1,27 @@
+ghost use mathlib.Core.Path.{_≡_};
+ghost use Rattle.aries.specs.Reader.{settingOf};
+
+// The decimal point setting: what a length or an angle without a point counts, hundredths at 1, whole millimetres and degrees
+// at 0.
+pub enum Setting {
+    Hundredths,
+    Millimetres,
+}
+
+impl Setting {
+    // The setting that a caller states: 0, and any other number counts as 1.
+    pub fn of(number: i32) -> Setting
+        ensures { λ r. ⌜ r ≡ settingOf number ⌝ }
+    {
+        if signed::equal(number, 0) {
+            Setting::Millimetres
+        } else {
+            Setting::Hundredths
+        }
+    }
+}
+
+// What a block is read by, besides its words.
+pub struct Reader {
+    pub setting: Setting,
+}
