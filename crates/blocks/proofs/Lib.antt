@@ -1,6 +1,6 @@
 pub mod Arms
-pub mod Lengths
 pub mod Bounds
 pub mod Sized
+pub mod Hundredths
 pub mod Counting
 pub mod Tests

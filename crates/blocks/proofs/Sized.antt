@@ -11,13 +11,13 @@ use lib.ListN.{getD, set, replicate}
 use Rattle.aries.specs.declared.word.Word.{Word}
 use Rattle.aries.specs.Letters.{letterG, indexOf}
 use Rattle.aries.specs.Words.{LetterWord}
-use Rattle.aries.specs.ByLetter.{noWord, Words, noWords, isMeasure, added, byLetter}
+use Rattle.aries.specs.ByLetter.{Letters, noWord, Words, noWords, isMeasure, added, byLetter}
 use Rattle.words.proofs.Word.{WellFormed}
 use Rattle.words.proofs.Gathering.{AllFormed}
 use Rattle.blocks.specs.Sized.{SizedWord, Sized}
 
 -- an absent word
-noWord-sized : SizedWord noWord
+pub noWord-sized : SizedWord noWord
 noWord-sized = record { absent = λ e. refl; small = omega arith }
 
 -- a word as it is written
@@ -32,12 +32,20 @@ each-replicate zero i = noWord-sized
 each-replicate (suc n) zero = noWord-sized
 each-replicate (suc n) (suc i) = each-replicate n i
 
-each-set : (ws : List Word) (j : ℕ) (v : Word) → SizedWord v → ((i : ℕ) → SizedWord (getD ws i noWord)) → (i : ℕ) → SizedWord (getD (set ws j v) i noWord)
-each-set [] j v c h i = noWord-sized
-each-set (u ∷ ws) zero v c h zero = c
-each-set (u ∷ ws) zero v c h (suc i) = h (suc i)
-each-set (u ∷ ws) (suc j) v c h zero = h zero
-each-set (u ∷ ws) (suc j) v c h (suc i) = each-set ws j v c (λ i. h (suc i)) i
+pub each-set :
+    (P : Word → Type 0) → P noWord → (ws : List Word) (j : ℕ) (v : Word) → P v → ((i : ℕ) → P (getD ws i noWord))
+    → (i : ℕ) → P (getD (set ws j v) i noWord)
+each-set P z [] j v c h i = z
+each-set P z (u ∷ ws) zero v c h zero = c
+each-set P z (u ∷ ws) zero v c h (suc i) = h (suc i)
+each-set P z (u ∷ ws) (suc j) v c h zero = h zero
+each-set P z (u ∷ ws) (suc j) v c h (suc i) = each-set P z ws j v c (λ i. h (suc i)) i
+
+-- by places
+pub by-place : (w : Letters) → Sized w → (i : ℕ) → SizedWord (getD w i noWord)
+by-place w sized i =
+    let e : i + 65 - 65 ≡ i = omega arith in
+    subst (λ (j : ℕ). SizedWord (getD w j noWord)) e (sized .each (i + 65))
 
 -- ---- The words of a block
 
@@ -46,17 +54,12 @@ added-sized : (w : Words) (r : LetterWord) → WellFormed r → Sized (w .letter
 unfolding added
 added-sized w r f sized = go (eqb (r .letter) letterG) (isMeasure (r .word)) refl refl
   where
-    by-index : (i : ℕ) → SizedWord (getD (w .letters) i noWord)
-    by-index i =
-        let e : i + 65 - 65 ≡ i = omega arith in
-        subst (λ (j : ℕ). SizedWord (getD (w .letters) j noWord)) e (sized .each (i + 65))
-
     go : (g m : Bool) → eqb (r .letter) letterG ≡ g → isMeasure (r .word) ≡ m → Sized (added w r .letters)
     go true true e h = simp (e, h) sized
     go true false e h = simp (e, h) sized
     go false m e h =
         simp e
-        (record { each = λ l. each-set (w .letters) (indexOf (r .letter)) (r .word) (written-sized (r .word) (f .written) (f .small)) by-index (indexOf l) })
+        (record { each = λ l. each-set SizedWord noWord-sized (w .letters) (indexOf (r .letter)) (r .word) (written-sized (r .word) (f .written) (f .small)) (by-place (w .letters) sized) (indexOf l) })
 
 all-sized : (w : Words) → Sized (w .letters) → (ws : List LetterWord) → AllFormed ws → Sized (foldl added w ws .letters)
 all-sized w sized [] f = sized

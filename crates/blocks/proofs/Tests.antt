@@ -1,6 +1,6 @@
 -- Laws of tests put together.
 -- Assumes nothing.
-use mathlib.Core.Path.{_≡_, refl, sym, _∙_}
+use mathlib.Core.Path.{_≡_, refl, sym, ap, _∙_}
 use mathlib.Core.Bool.{Bool, true, false, _&&_, _||_, and-assoc, and-true, or-assoc, or-false}
 use mathlib.Core.List.{List, [], _∷_}
 use Prim.Native.Nat.{ℕ}
@@ -38,3 +38,10 @@ is-after n b (a ∷ rest) = is-after n (b || eqb n a) rest ∙ or-assoc b (eqb n
 -- a first test, and three more with what they come to
 pub after-one : (a : Bool) {b c d q r s : Bool} → b ≡ q → c ≡ r → d ≡ s → (((a && b) && c) && d) ≡ (a && (q && (r && s)))
 after-one a {b} {c} {d} {q} {r} {s} f g h = simp (f, g, h, and-assoc)
+
+-- five tests made as two, two and one
+pub all-five : (x y i j d : Bool) → (((x && y) && (i && j)) && d) ≡ (x && (y && (i && (j && (d && true)))))
+all-five false y i j d = refl
+all-five true false i j d = refl
+all-five true true false j d = refl
+all-five true true true j d = ap (_&&_ j) (sym (and-true d))

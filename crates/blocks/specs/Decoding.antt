@@ -1,5 +1,6 @@
 -- What the words of a block are judged to be, and the tests of refusals 5 and 6 as the code goes through them.
-use mathlib.Core.Bool.{Bool, not, cond, _||_}
+use mathlib.Core.Bool.{Bool, not, cond, _&&_, _||_}
+use Rattle.aries.specs.declared.reader.Setting.{Setting}
 use Rattle.aries.specs.declared.word.Word.{Word}
 use Rattle.aries.specs.declared.block.Axis.{Axis}
 use Rattle.aries.specs.declared.block.Judged.{Judged}
@@ -7,18 +8,28 @@ use Rattle.aries.specs.declared.block.Kind.{Kind}
 use Rattle.aries.specs.declared.block.Judged.the-variants as Judged
 use Rattle.aries.specs.ByLetter.{Letters}
 use Rattle.aries.specs.Forms.{kindOf}
-use Rattle.aries.specs.Numbers.{Range, isOfRange, isRanged}
+use Rattle.aries.specs.Numbers.{Range, isOfRange, inHundredths, lengthsFit, isRanged}
 use Rattle.words.specs.declared.Summary.{Summary}
 use Rattle.words.specs.Keeping.{measureBy, wordsBy}
 use Rattle.blocks.specs.Counting.{isCounted}
 
--- what the words of a block are judged to be: 5, then 6
-abbrev pub judgedAs : Letters → Summary → Kind → Judged
-judgedAs w s k =
-    cond (isCounted w s k) (cond (isRanged w k) (Judged.Of k (measureBy s)) (Judged.Refused 6)) (Judged.Refused 5)
+-- 6
+abbrev pub rangedAs : Setting → Letters → Summary → Kind → Judged
+rangedAs t w s k = cond (lengthsFit t k w && isRanged (inHundredths t k w) k) (Judged.Of k (measureBy s)) (Judged.Refused 6)
 
-abbrev pub judgedOf : Letters → Summary → Judged
-judgedOf w s = judgedAs w s (kindOf (wordsBy w s))
+-- what the words of a block are judged to be: 5, then 6
+abbrev pub judgedAs : Setting → Letters → Summary → Kind → Judged
+judgedAs t w s k = cond (isCounted w s k) (rangedAs t w s k) (Judged.Refused 5)
+
+abbrev pub judgedOf : Setting → Letters → Summary → Judged
+judgedOf t w s = judgedAs t w s (kindOf (wordsBy w s))
+
+-- the words that judging leaves: past 5 they are in hundredths
+abbrev pub lettersAs : Setting → Letters → Summary → Kind → Letters
+lettersAs t w s k = cond (isCounted w s k) (inHundredths t k w) w
+
+abbrev pub lettersLeft : Setting → Letters → Summary → Letters
+lettersLeft t w s = lettersAs t w s (kindOf (wordsBy w s))
 
 -- a word against a range; an absent one passes
 abbrev pub passes : Range → Word → Bool

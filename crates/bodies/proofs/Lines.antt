@@ -3,7 +3,7 @@
 use mathlib.Core.Path.{_≡_, refl, sym, ap, _∙_, fun-ext}
 use mathlib.Core.Bool.{Bool, true, false}
 use mathlib.Core.List.{List, [], _∷_}
-use Prim.Native.Nat.{ℕ, zero, suc, _+_, _<_, _≤_}
+use Prim.Native.Nat.{ℕ, suc, _+_, _<_, _≤_}
 use native.Mathlib.Omega.{arith}
 use borrow.Author.Tests.{ltb-true, ltb-false}
 use lib.Dec.{ltb}
@@ -63,7 +63,7 @@ module _ (j : Judging) (c : Calls) (f : Frame) where
         → andThen (runLine j c f line l g) next ≡ all (onward (lineStep j f (at + length l) line l g) later)
     unfolding runBlock carry
     line-all at line [] g next later feed same past = ap (adding []) (same g) ∙ adding-then [] (later g .made) (rest j c f t (later g .stop))
-    line-all at line (b ∷ bs) g next later feed same past = begins (begin j line (b ∷ bs) g)
+    line-all at line (b ∷ bs) g next later feed same past = begins (begin j f line (b ∷ bs) g)
       where
         carried : (out : Out (Made Progress)) → andThen out next ≡ all (onward (stepOf out) later)
         carried (done m) = ap (adding (m .hits)) (same (m .after)) ∙ adding-then (m .hits) (later (m .after) .made) (rest j c f t (later (m .after) .stop))

@@ -56,7 +56,7 @@ pub fn run_blocks(
 {
     let at = from.at;
     let line = from.line;
-    let start = look_ahead(body, at, line);
+    let start = look_ahead(frame, body, at, line);
     let stretch = run_stretch(list, body, at, line, start, frame, progress);
     let stop = stretch.stop;
     if stop.is_end() {
@@ -105,7 +105,7 @@ pub fn run_rest(
                 if let Status::Refused(_, _) = ended {
                     return outcome;
                 }
-                let next = look_ahead(body, end, place);
+                let next = look_ahead(frame, body, end, place);
                 let stretch = run_stretch(list, body, end, place, next, frame, outcome.progress);
                 let ran = stretch.outcome;
                 let status = ran.status;
@@ -144,7 +144,7 @@ pub fn run_body(
     let from = clip(begin, to);
     let body = &text[from..to];
     let number = first as u64;
-    let start = look_ahead(body, 0, number);
+    let start = look_ahead(frame, body, 0, number);
     let stretch = run_stretch(list, body, 0, number, start, frame, progress);
     let stop = stretch.stop;
     if stop.is_end() {

@@ -6,6 +6,7 @@ use Rattle.aries.specs.declared.block.Copies.{Copies}
 use Rattle.aries.specs.declared.block.Layout.{Layout}
 use Rattle.aries.specs.declared.macros.Found.the-variants.{Body, Nothing}
 use Rattle.aries.specs.declared.macros.Macros.{Macros}
+use Rattle.aries.specs.declared.reader.Reader.{Reader}
 use Rattle.aries.specs.declared.setup.Setup.{Setup}
 use Rattle.aries.specs.declared.setup.Sheet.the-variants.{Plain, LaidOut}
 use Rattle.aries.specs.declared.state.Progress.{Progress}
@@ -46,12 +47,12 @@ module _ (j : Judging) (text : List ℕ) (m : Macros) (s : Setup) (line : ℕ) (
 -- ---- The part
 
 -- without a block
-pub part-blank : (j : Judging) (bodies : Bodies) (first : ℕ) (body : List ℕ) → ahead body 0 first ≡ Ahead.Nothing → partOf j bodies (bodyOf first body) ≡ blankPart
+pub part-blank : (r : Reader) (j : Judging) (bodies : Bodies) (first : ℕ) (body : List ℕ) → ahead r body 0 first ≡ Ahead.Nothing → partOf j bodies (bodyOf first body) ≡ blankPart
 unfolding runBody
-part-blank j bodies first body h =
+part-blank r j bodies first body h =
     let calls = call j bodies (mostCalls - 1) in
     fun-ext
     (λ f. fun-ext
     (λ g. lines-stretched j calls f body 0 first g
-    ∙ ap (λ (s : Stretched). andThen (s .made) (rest j calls f body (s .stop))) (stretch-skip j f body 0 first g ∙ stretch-end j f body _ _ g (ahead-nothing body 0 first h))
+    ∙ ap (λ (s : Stretched). andThen (s .made) (rest j calls f body (s .stop))) (stretch-skip j f body 0 first g ∙ stretch-end j f body _ _ g (ahead-nothing r body 0 first h))
     ∙ no-hit-then g (rest j calls f body Stop.End)))

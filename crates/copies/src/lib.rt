@@ -22,6 +22,7 @@ ghost use mathlib.Core.Path.{_≡_};
 ghost use Rattle.aries.specs.Layouts.{copyStart, partOf, copy, copyPart};
 ghost use Rattle.aries.specs.Macros.{bodiesOf};
 ghost use Rattle.aries.specs.WidePoints.{pointOf};
+ghost use Rattle.aries.specs.Reader.{readerOf};
 ghost use Rattle.aries.specs.Runs.{Lent, lent, Carried};
 ghost use Rattle.aries.specs.Setup.{ordinaryFrame};
 ghost use Rattle.stretches.specs.Lookahead.{ahead};
@@ -69,7 +70,7 @@ fn copy_at(
     blocks: u32,
     hits: usize,
 ) -> Outcome
-    requires { ⌜ (LinesFit first 0 (now body)) × (start ≡ ahead (now body) 0 first) ⌝ }
+    requires { ⌜ (LinesFit first 0 (now body)) × (start ≡ ahead (readerOf frame) (now body) 0 first) ⌝ }
     ensures { λ r. ⌜ Carried r frame (lent (now (list .entry))) (lent (now (list .exit))) (record { state = found; blocks = blocks; hits = hits }) (λ j. copy j (partOf j (bodiesOf (now (text .entry)) macros) (bodyOf first (now (body .entry)))) frame line found (pointOf place)) ⌝ }
 {
     let located = place.located();
@@ -122,7 +123,7 @@ fn copy_next(
     place: WidePoint,
     before: Progress,
 ) -> Outcome
-    requires { ⌜ (LinesFit first 0 (now body)) × (start ≡ ahead (now body) 0 first) ⌝ }
+    requires { ⌜ (LinesFit first 0 (now body)) × (start ≡ ahead (readerOf frame) (now body) 0 first) ⌝ }
     ensures { λ r. ⌜ Carried r frame (lent (now (list .entry))) (lent (now (list .exit))) before (λ j. copy j (partOf j (bodiesOf (now (text .entry)) macros) (bodyOf first (now (body .entry)))) frame line saved (pointOf place)) ⌝ }
 {
     copy_at(
@@ -155,7 +156,7 @@ fn copy_body(
     copies: Copies,
     progress: Progress,
 ) -> Outcome
-    requires { ⌜ (LinesFit first 0 (now body)) × (start ≡ ahead (now body) 0 first) ⌝ }
+    requires { ⌜ (LinesFit first 0 (now body)) × (start ≡ ahead (readerOf frame) (now body) 0 first) ⌝ }
     ensures { λ r. ⌜ Carried r frame (lent (now (list .entry))) (lent (now (list .exit))) progress (λ j. allCopies j (partOf j (bodiesOf (now (text .entry)) macros) (bodyOf first (now (body .entry)))) frame line layout copies) ⌝ }
 {
     let origin = frame.origin;
@@ -207,7 +208,7 @@ fn copy_over(
     ensures { λ r. ⌜ Carried r frame (lent (now (list .entry))) (lent (now (list .exit))) progress (λ j. allCopies j (partOf j (bodiesOf (now (text .entry)) macros) (bodyOf first (now (body .entry)))) frame line layout copies) ⌝ }
 {
     let number = first as u64;
-    let start = look_ahead(body, 0, number);
+    let start = look_ahead(frame, body, 0, number);
     if let Ahead::Nothing = start {
         return copy_blank(frame, line, layout, copies, progress);
     }

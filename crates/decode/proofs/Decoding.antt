@@ -1,11 +1,12 @@
 -- Laws of `decodedAt`: what a caller learns of the line at a place.
-use mathlib.Core.Path.{_≡_, refl}
+use mathlib.Core.Path.{_≡_}
 use mathlib.Core.List.{List}
 use Prim.Native.Nat.{ℕ}
 use native.Mathlib.Omega.{arith}
 use Rattle.aries.specs.declared.block.Decoded.{Decoded}
 use Rattle.aries.specs.declared.block.Decoded.the-variants as Decoded
 use Rattle.aries.specs.declared.block.Instruction.{Instruction}
+use Rattle.aries.specs.declared.reader.Reader.{Reader}
 use Rattle.aries.specs.Outcome.{Checked, passes, fails}
 use Rattle.aries.specs.Blocks.{decode}
 use Rattle.text.specs.Lines.{lineAt, lineEnd}
@@ -19,9 +20,9 @@ of-refusal : (end : ℕ) (c : Checked Instruction) (number : ℕ) → decodedOf 
 of-refusal end (passes k) number e = let z : _≡_ {A = ℕ} 0 1 = cc in absurd (omega arith)
 of-refusal end (fails n) number e = let a : n ≡ number = cc in rw a
 
-module _ (t : List ℕ) (at : ℕ) where
-  pub decoded-instruction : (i : Instruction) (end : ℕ) → decodedAt t at ≡ Decoded.Instruction i end → (decode (lineAt t at) ≡ passes i) × (lineEnd t at ≡ end)
-  decoded-instruction i end e = of-instruction (lineEnd t at) (decode (lineAt t at)) i end e
+module _ (r : Reader) (t : List ℕ) (at : ℕ) where
+  pub decoded-instruction : (i : Instruction) (end : ℕ) → decodedAt r t at ≡ Decoded.Instruction i end → (decode r (lineAt t at) ≡ passes i) × (lineEnd t at ≡ end)
+  decoded-instruction i end e = of-instruction (lineEnd t at) (decode r (lineAt t at)) i end e
 
-  pub decoded-refused : (number : ℕ) → decodedAt t at ≡ Decoded.Refused number → decode (lineAt t at) ≡ fails number
-  decoded-refused number e = of-refusal (lineEnd t at) (decode (lineAt t at)) number e
+  pub decoded-refused : (number : ℕ) → decodedAt r t at ≡ Decoded.Refused number → decode r (lineAt t at) ≡ fails number
+  decoded-refused number e = of-refusal (lineEnd t at) (decode r (lineAt t at)) number e

@@ -11,12 +11,13 @@ use Rattle.aries.specs.declared.block.Judged.{Judged}
 use Rattle.aries.specs.declared.block.Judged.the-variants as Judged
 use Rattle.aries.specs.declared.block.Kind.{Kind}
 use Rattle.aries.specs.declared.block.Measure.{Measure}
+use Rattle.aries.specs.declared.reader.Reader.{Reader}
 use Rattle.aries.specs.Outcome.{Checked, passes, fails}
 use Rattle.aries.specs.Test.{isSome}
 use Rattle.aries.specs.Words.{LetterWord, formedWords, sizeOf, words}
 use Rattle.aries.specs.ByLetter.{Letters, Words, byLetter}
 use Rattle.aries.specs.Forms.{inPlaces, kindOf, isListed}
-use Rattle.aries.specs.Numbers.{isRanged}
+use Rattle.aries.specs.Numbers.{inHundredths, lengthsFit, isRanged}
 use Rattle.aries.specs.Blocks.{blockOf, instructionOf, decodeWords, decoded, decode}
 use Rattle.words.specs.declared.Summary.{Summary}
 use Rattle.words.specs.Gathering.{Gathers}
@@ -24,8 +25,9 @@ use Rattle.words.specs.Keeping.{lettersOf, summaryOf}
 use Rattle.words.proofs.Summaries.{summary-words}
 use Rattle.words.proofs.Gathering.{front-formed, AllFormed, gathers-words}
 use Rattle.blocks.specs.Sized.{Sized}
-use Rattle.blocks.specs.Decoding.{judgedAs, judgedOf}
+use Rattle.blocks.specs.Decoding.{judgedAs, judgedOf, lettersAs, lettersLeft}
 use Rattle.blocks.proofs.Sized.{by-letter-sized}
+use Rattle.blocks.proofs.Hundredths.{both-pass, hundredths-sized}
 use Rattle.blocks.proofs.Counting.{is-counted}
 
 -- ---- Words that are judged
@@ -35,78 +37,101 @@ abbrev pub instructionBy : Letters → Judged → Checked Instruction
 instructionBy w (Judged.Of k m) = passes (record { measure = m; block = blockOf w k })
 instructionBy w (Judged.Refused n) = fails n
 
-module _ (formed : Bool) (end : ℕ) (ws : List LetterWord) (f : AllFormed ws) where
+module _ (r : Reader) (formed : Bool) (end : ℕ) (ws : List LetterWord) (f : AllFormed ws) where
   abbrev w : Words
   w = byLetter ws
-
-  abbrev judged : Judged
-  judged = judgedOf (w .letters) (summaryOf formed end ws)
 
   abbrev kind : Kind
   kind = kindOf w
 
+  -- all lengths and angles in hundredths
+  abbrev hundredths : Letters
+  hundredths = inHundredths (r .setting) kind (w .letters)
+
+  abbrev summary : Summary
+  summary = summaryOf formed end ws
+
+  abbrev judged : Judged
+  judged = judgedOf (r .setting) (w .letters) summary
+
+  -- 5 and 6
+  abbrev isKnown : Bool
+  isKnown = inPlaces ws && isListed w kind
+
+  abbrev isFit : Bool
+  isFit = lengthsFit (r .setting) kind (w .letters) && isRanged hundredths kind
+
   -- by the two tests
-  judged-words :
-      judged
-      ≡ cond (inPlaces ws && isListed w kind)
-      (cond (isRanged (w .letters) kind) (Judged.Of kind (w .measure)) (Judged.Refused 6))
-      (Judged.Refused 5)
+  judged-words : judged ≡ cond isKnown (cond isFit (Judged.Of kind (w .measure)) (Judged.Refused 6)) (Judged.Refused 5)
   judged-words =
       let back = summary-words formed end ws in
-      ap (judgedAs (w .letters) (summaryOf formed end ws)) (ap kindOf back)
+      ap (judgedAs (r .setting) (w .letters) summary) (ap kindOf back)
       ∙ rw (is-counted formed end ws kind f, ap (λ (v : Words). v .measure) back)
 
+  left-words : lettersLeft (r .setting) (w .letters) summary ≡ cond isKnown hundredths (w .letters)
+  left-words =
+      ap (lettersAs (r .setting) (w .letters) summary) (ap kindOf (summary-words formed end ws)) ∙ rw (is-counted formed end ws kind f)
+
   -- it is the instruction of the words
-  judged-decodes : decodeWords ws ≡ instructionBy (w .letters) judged
+  judged-decodes : decodeWords r ws ≡ instructionBy (lettersLeft (r .setting) (w .letters) summary) judged
   unfolding decodeWords
-  judged-decodes = rw judged-words (go (inPlaces ws && isListed w kind) (isRanged (w .letters) kind))
+  judged-decodes = rw (judged-words, left-words) (go isKnown isFit)
     where
       go :
-          (l r : Bool)
-          → cond l (cond r (passes (instructionOf w)) (fails 6)) (fails 5)
-          ≡ instructionBy (w .letters) (cond l (cond r (Judged.Of kind (w .measure)) (Judged.Refused 6)) (Judged.Refused 5))
+          (l t : Bool)
+          → cond l (cond t (passes (instructionOf kind (w .measure) hundredths)) (fails 6)) (fails 5)
+          ≡ instructionBy (cond l hundredths (w .letters)) (cond l (cond t (Judged.Of kind (w .measure)) (Judged.Refused 6)) (Judged.Refused 5))
       go true true = refl
       go true false = refl
-      go false r = refl
+      go false t = refl
 
-  -- a kind is one whose ranges hold
-  judged-ranged : (k : Kind) (m : Measure) → judged ≡ Judged.Of k m → isRanged (w .letters) k ≡ true
-  judged-ranged k m e = go (inPlaces ws && isListed w kind) (isRanged (w .letters) kind) refl (sym judged-words ∙ e)
+  -- a kind is one whose ranges hold, of words that are sized
+  judged-ranged :
+      Sized (w .letters) → (k : Kind) (m : Measure) → judged ≡ Judged.Of k m
+      → (let left = lettersLeft (r .setting) (w .letters) summary in Sized left × (isRanged left k ≡ true))
+  judged-ranged sized k m e = rw left-words (go isKnown isFit refl (sym judged-words ∙ e))
     where
       go :
-          (l r : Bool) → isRanged (w .letters) kind ≡ r
-          → cond l (cond r (Judged.Of kind (w .measure)) (Judged.Refused 6)) (Judged.Refused 5) ≡ Judged.Of k m
-          → isRanged (w .letters) k ≡ true
-      go true true q j = let a : kind ≡ k = cc in rw (sym a) q
+          (l t : Bool) → isFit ≡ t
+          → cond l (cond t (Judged.Of kind (w .measure)) (Judged.Refused 6)) (Judged.Refused 5) ≡ Judged.Of k m
+          → Sized (cond l hundredths (w .letters)) × (isRanged (cond l hundredths (w .letters)) k ≡ true)
+      go true true q j =
+          let a : kind ≡ k = cc in
+          let both = both-pass (r .setting) kind (w .letters) hundredths q in
+          (hundredths-sized (r .setting) kind (w .letters) sized (both .0), rw (sym a) (both .1))
       go true false q j = let z : _≡_ {A = ℕ} 0 1 = cc in absurd (omega arith)
-      go false r q j = let z : _≡_ {A = ℕ} 0 1 = cc in absurd (omega arith)
+      go false t q j = let z : _≡_ {A = ℕ} 0 1 = cc in absurd (omega arith)
 
 -- ---- A line
 
-module _ (line : List ℕ) (from : ℕ) (s : Summary) (forms : List ℕ) (numbers : List ℤ) (g : Gathers line from s forms numbers) where
+module _ (r : Reader) (line : List ℕ) (from : ℕ) (s : Summary) (forms : List ℕ) (numbers : List ℤ) (g : Gathers line from s forms numbers) where
   abbrev ws : List LetterWord
   ws = formedWords line
 
+  formed-all : AllFormed ws
+  formed-all = front-formed (length line) line
+
   -- its words have not all the form
-  pub line-malformed : s .formed ≡ false → decode line ≡ fails 4
+  pub line-malformed : s .formed ≡ false → decode r line ≡ fails 4
   unfolding decode
-  line-malformed t = ap decoded (rw t at (gathers-words line from s forms numbers g))
+  line-malformed t = ap (decoded r) (rw t at (gathers-words line from s forms numbers g))
 
   pub line-sized : Sized (lettersOf forms numbers)
-  line-sized = rw (g .letters) (by-letter-sized ws (front-formed (length line) line))
+  line-sized = rw (g .letters) (by-letter-sized ws formed-all)
 
-  -- what is kept, judged
-  kept-judged : judgedOf (lettersOf forms numbers) s ≡ judged (isSome (words line)) (from + sizeOf ws) ws (front-formed (length line) line)
-  kept-judged = ap (judgedOf (lettersOf forms numbers)) (g .told) ∙ rw (g .letters)
+  -- what is kept is that of its words
+  told : s ≡ summary r (isSome (words line)) (from + sizeOf ws) ws formed-all
+  told = g .told
 
-  pub line-decodes : s .formed ≡ true → decode line ≡ instructionBy (lettersOf forms numbers) (judgedOf (lettersOf forms numbers) s)
-  unfolding decode
-  line-decodes t =
-      ap decoded (rw t at (gathers-words line from s forms numbers g))
-      ∙ judged-decodes (isSome (words line)) (from + sizeOf ws) ws (front-formed (length line) line)
-      ∙ rw (kept-judged, g .letters)
+  module _ (w : Letters) (left : w ≡ lettersLeft (r .setting) (lettersOf forms numbers) s) where
+    pub line-decodes : s .formed ≡ true → decode r line ≡ instructionBy w (judgedOf (r .setting) (lettersOf forms numbers) s)
+    unfolding decode
+    line-decodes t =
+        ap (decoded r) (rw t at (gathers-words line from s forms numbers g))
+        ∙ judged-decodes r (isSome (words line)) (from + sizeOf ws) ws formed-all
+        ∙ rw (left, g .letters, told)
 
-  pub line-ranged : (k : Kind) (m : Measure) → judgedOf (lettersOf forms numbers) s ≡ Judged.Of k m → isRanged (lettersOf forms numbers) k ≡ true
-  line-ranged k m e =
-      rw (g .letters)
-      (judged-ranged (isSome (words line)) (from + sizeOf ws) ws (front-formed (length line) line) k m (sym kept-judged ∙ e))
+    pub line-ranged : (k : Kind) (m : Measure) → judgedOf (r .setting) (lettersOf forms numbers) s ≡ Judged.Of k m → Sized w × (isRanged w k ≡ true)
+    line-ranged k m e =
+        rw (left, g .letters, told)
+        (judged-ranged r (isSome (words line)) (from + sizeOf ws) ws formed-all (by-letter-sized ws formed-all) k m (rw (g .letters, told) at e))

@@ -2,14 +2,15 @@
 use aries::block::Decoded;
 use aries::block::Instruction;
 use aries::block::Judged;
+use aries::reader::Reader;
 use aries::refusal;
 use blocks::request::block_of;
 ghost use mathlib.Core.Path.{_≡_};
 ghost use Rattle.decode.specs.Decoding.{decodedAt};
 
 // The instruction of the line at a place of the text, with the place where the line ends, or the number of its refusal.
-pub fn decode(text: &[u8], at: usize) -> Decoded
-    ensures { λ r. ⌜ r ≡ decodedAt (now (text .entry)) at ⌝ }
+pub fn decode(reader: Reader, text: &[u8], at: usize) -> Decoded
+    ensures { λ r. ⌜ r ≡ decodedAt reader (now (text .entry)) at ⌝ }
 {
     let mut forms = [0; 26];
     let mut numbers = [0; 26];
@@ -17,7 +18,8 @@ pub fn decode(text: &[u8], at: usize) -> Decoded
     if !summary.formed {
         return Decoded::Refused(refusal::WORD_FORM);
     }
-    let judged = blocks::judge(&forms, &numbers, summary);
+    let setting = reader.setting;
+    let judged = blocks::judge(setting, &forms, &mut numbers, summary);
     match judged {
         Judged::Of(kind, measure) => {
             let block = block_of(&forms, &numbers, kind);

@@ -13,10 +13,13 @@ const MOST_READ: usize = 60_001;
 // The numbers of a list for 4,096 hits.
 const NUMBERS: usize = 16_384;
 
+// The decimal point setting: lengths and angles without a point count hundredths.
+const SETTING: i32 = 1;
+
 // Expands a text and prints its listing.
 fn run(text: &[u8]) {
     let mut list = [0i32; NUMBERS];
-    let answer = tolkjirp::expand(text, &mut list);
+    let answer = tolkjirp::expand(SETTING, text, &mut list);
     print_listing(&list, answer);
 }
 

@@ -2,7 +2,7 @@
 use mathlib.Core.Path.{_≡_}
 use mathlib.Core.List.{List, [], _∷_}
 use Prim.Native.Nat.{ℕ}
-use lib.IntN.{ℤ, pos, negsuc}
+use lib.IntN.{pos, negsuc}
 use Rattle.aries.specs.declared.answer.Answer.the-variants.{Hits, Refused}
 use Rattle.aries.specs.Outcome.{Out}
 use Rattle.aries.specs.Hits.{Hit}
@@ -17,10 +17,10 @@ use Rattle.printing.specs.Listing.{listing}
 abbrev pub printed : ℕ → Out (List Hit) → List ℕ
 printed numbers out = listing (answerOf out) (listOf numbers out)
 
--- its four lines, with the list that the program hitlist lends
+-- its four lines, at setting 1 and with the list that the program hitlist lends
 abbrev pub PlatePrinted : Type 0
 PlatePrinted =
-    printed numbers (expand (bytes "G92 X600. Y600.\nG90 X100. Y100. T2\nG28 I10. J45. K2\nG50\n") numbers)
+    printed numbers (expand (pos 1) (bytes "G92 X600. Y600.\nG90 X100. Y100. T2\nG28 I10. J45. K2\nG50\n") numbers)
     ≡ bytes "HITS 3\n1 10000 10000 2 P\n2 10707 10707 2 P\n3 11414 11414 2 P\n"
 
 -- ---- Other listings

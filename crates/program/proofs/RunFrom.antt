@@ -22,7 +22,9 @@ use Rattle.aries.specs.Letters.{letterV}
 use Rattle.aries.specs.Text.{lineFeed, lines, startsWith}
 use Rattle.aries.specs.Hits.{Made, noHit, andThen}
 use Rattle.aries.specs.Judging.{Judging, room}
+use Rattle.aries.specs.Reader.{readerOf}
 use Rattle.aries.specs.Macros.{isCounted, begun, Begun, begin}
+use Rattle.aries.specs.Setup.{ordinaryFrame}
 use Rattle.aries.specs.Program.{withProgress, isStoring, passOver, runBlockOutside, runLineOutside, runFrom}
 use Rattle.aries.proofs.Runs.{no-hit-then}
 use Rattle.text.specs.Lines.{lineLength, lineAt, lineEnd, blanks}
@@ -105,7 +107,7 @@ module _ (j : Judging) (t : List ℕ) where
         → linesFrom j t at line p
         ≡ andThen
         (do
-          b ← begin j line (lineAt t at) (p .progress)
+          b ← begin j (ordinaryFrame (p .setup)) line (lineAt t at) (p .progress)
           placed j t (lineEnd t at) line (b .block) (withProgress p (b .progress)))
         (linesFrom j t (lineEnd t at) line)
     unfolding runBlockOutside placed
@@ -126,25 +128,25 @@ module _ (j : Judging) (t : List ℕ) where
     same-counted : isCounted (lineAt t at) ≡ countedAt t at
     same-counted = ap not (first-byte (λ b. eqb b letterV) refl refl t at h)
 
-    block-here : {x : Out Begun} → begin j line (lineAt t at) g ≡ x → linesFrom j t at line (program stage s m g) ≡ andThen (_>>=_ x (λ b. placed j t (lineEnd t at) line (b .block) (program stage s m (b .progress)))) (linesFrom j t (lineEnd t at) line)
+    block-here : {x : Out Begun} → begin j (ordinaryFrame s) line (lineAt t at) g ≡ x → linesFrom j t at line (program stage s m g) ≡ andThen (_>>=_ x (λ b. placed j t (lineEnd t at) line (b .block) (program stage s m (b .progress)))) (linesFrom j t (lineEnd t at) line)
     block-here q =
         block-then at line (program stage s m g) h f e
         ∙ ap (λ (x : Out Begun). andThen (_>>=_ x (λ b. placed j t (lineEnd t at) line (b .block) (program stage s m (b .progress)))) (linesFrom j t (lineEnd t at) line)) q
 
     pub block-spent : (not (countedAt t at) || room (j .blocks) (g .blocks)) ≡ false → linesFrom j t at line (program stage s m g) ≡ refused 3 line
-    block-spent q = block-here (begin-spent j line (lineAt t at) g (rw same-counted q))
+    block-spent q = block-here (begin-spent j (ordinaryFrame s) line (lineAt t at) g (rw same-counted q))
 
     module _ (may : (not (countedAt t at) || room (j .blocks) (g .blocks)) ≡ true) where
-      pub block-refused : (number : ℕ) → decodedAt t at ≡ Decoded.Refused number → linesFrom j t at line (program stage s m g) ≡ refused number line
-      block-refused number q = block-here (begin-refused j line (lineAt t at) g (rw same-counted may) number (decoded-refused t at number q))
+      pub block-refused : (number : ℕ) → decodedAt (readerOf (ordinaryFrame s)) t at ≡ Decoded.Refused number → linesFrom j t at line (program stage s m g) ≡ refused number line
+      block-refused number q = block-here (begin-refused j (ordinaryFrame s) line (lineAt t at) g (rw same-counted may) number (decoded-refused (readerOf (ordinaryFrame s)) t at number q))
 
       pub block-begun :
-          (i : Instruction) (end : ℕ) → decodedAt t at ≡ Decoded.Instruction i end
+          (i : Instruction) (end : ℕ) → decodedAt (readerOf (ordinaryFrame s)) t at ≡ Decoded.Instruction i end
           → linesFrom j t at line (program stage s m g)
           ≡ andThen (placed j t end line (i .block) (program stage s m (begun (countedAt t at) (i .measure) g))) (linesFrom j t end line)
       block-begun i end q =
-          let d = decoded-instruction t at i end q in
-          block-here (begin-done j line (lineAt t at) g (rw same-counted may) i (d .0)) ∙ rw (same-counted, d .1)
+          let d = decoded-instruction (readerOf (ordinaryFrame s)) t at i end q in
+          block-here (begin-done j (ordinaryFrame s) line (lineAt t at) g (rw same-counted may) i (d .0)) ∙ rw (same-counted, d .1)
 
   -- ---- Between a U line and its V line
 

@@ -66,7 +66,7 @@ module _ (j : Judging) (t : List ℕ) (s : Setup) (m : Macros) where
       ≡ all (onward (lineStep j (ordinaryFrame s) end line l g) later)
   unfolding runBlockOutside placed carryOut carry
   line-all end line [] g later rest same past = ap (adding []) (same g) ∙ adding-all [] (later g)
-  line-all end line (b ∷ bs) g later rest same past = begins (begin j line (b ∷ bs) g)
+  line-all end line (b ∷ bs) g later rest same past = begins (begin j (ordinaryFrame s) line (b ∷ bs) g)
     where
       carried : (out : Out (Made Progress)) → andThen (mapAfter (program Running s m) out) rest ≡ all (onward (stepOf out) later)
       carried (done n) = ap (adding (n .hits)) (same (n .after)) ∙ adding-all (n .hits) (later (n .after))

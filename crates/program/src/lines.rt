@@ -54,7 +54,8 @@ fn run_alone(
     if !may_come {
         return Turn::running(setup, progress, Next::Refused(refusal::BLOCKS_SPENT, place));
     }
-    let decoded = decode::decode(text, start);
+    let frame = setup.frame();
+    let decoded = decode::decode(frame.reader(), text, start);
     match decoded {
         Decoded::Refused(number) => Turn::running(setup, progress, Next::Refused(number, place)),
         Decoded::Instruction(instruction, end) => {
@@ -95,8 +96,9 @@ fn run_on(
     requires { ⌜ InText (now text) at line ⌝ }
     ensures { λ r. ⌜ Turns r (now (text .entry)) at line Running setup progress (lent (now (list .entry))) (lent (now (list .exit))) ⌝ }
 {
-    let start = look_ahead(text, at, line);
-    let stretch = run_stretch(list, text, at, line, start, setup.frame(), progress);
+    let frame = setup.frame();
+    let start = look_ahead(frame, text, at, line);
+    let stretch = run_stretch(list, text, at, line, start, frame, progress);
     let outcome = stretch.outcome;
     let left = outcome.progress;
     let status = outcome.status;

@@ -14,6 +14,7 @@ use Rattle.aries.specs.declared.block.Decoded.the-variants as Decoded
 use Rattle.aries.specs.declared.block.Instruction.{Instruction}
 use Rattle.aries.specs.declared.block.Outside.{Outside}
 use Rattle.aries.specs.declared.block.Outside.the-variants as Outside
+use Rattle.aries.specs.declared.reader.Reader.{Reader}
 use Rattle.aries.specs.Outcome.{Checked, passes, fails}
 use Rattle.aries.specs.Blocks.{decode}
 use Rattle.aries.specs.Bodies.{isClose, closes, isCloseOf, isOwnClose}
@@ -27,9 +28,9 @@ isDecodedClose n (Decoded.Instruction i end) = closes n (i .block)
 isDecodedClose n (Decoded.Refused number) = false
 
 -- the line at a place, as it is decoded there
-pub own-decoded : (n : ℕ) (t : List ℕ) (at : ℕ) → isOwnClose n (lineAt t at) ≡ isDecodedClose n (decodedAt t at)
+pub own-decoded : (r : Reader) (n : ℕ) (t : List ℕ) (at : ℕ) → isOwnClose r n (lineAt t at) ≡ isDecodedClose n (decodedAt r t at)
 unfolding isOwnClose
-own-decoded n t at = go (decode (lineAt t at))
+own-decoded r n t at = go (decode r (lineAt t at))
   where
     go : (d : Checked Instruction) → isCloseOf n d ≡ isDecodedClose n (decodedOf (lineEnd t at) d)
     go (passes i) = refl

@@ -16,6 +16,7 @@ use Rattle.aries.specs.Text.{lines}
 use Rattle.aries.specs.Hits.{Made, noHit, mapAfter}
 use Rattle.aries.specs.Judging.{Judging}
 use Rattle.aries.specs.Macros.{Body, part, bodiesOf, storing, characters, mostCalls, call, runLines, runBody}
+use Rattle.aries.specs.Reader.{readerOf}
 use Rattle.aries.specs.Setup.{ordinaryFrame}
 use Rattle.aries.specs.Bodies.{bodySize, mostCharacters, runsFirst, firstRun, bodyFrom, storedAt, Store, withStored, openBody}
 
@@ -36,12 +37,12 @@ module _ (j : Judging) (text : List ℕ) (m : Macros) (n : ℕ) (b : Body) (s : 
 
 module _ (j : Judging) (text : List ℕ) (n start line : ℕ) (ls : List (List ℕ)) (s : Setup) (st : Store) where
   -- no V line
-  pub open-unclosed : bodySize n ls ≡ none → openBody j text n start line ls s st ≡ refused 9 line
+  pub open-unclosed : bodySize (readerOf (ordinaryFrame s)) n ls ≡ none → openBody j text n start line ls s st ≡ refused 9 line
   unfolding openBody
   open-unclosed e = simp e
 
   -- the bodies with the new one
-  module _ (kept : Macros) (size : ℕ) (found : bodySize n ls ≡ some size) (with-new : kept ≡ storing (st .macros) n start (start + size) (line + 1)) where
+  module _ (kept : Macros) (size : ℕ) (found : bodySize (readerOf (ordinaryFrame s)) n ls ≡ some size) (with-new : kept ≡ storing (st .macros) n start (start + size) (line + 1)) where
     -- what is left to do, with the bodies to be kept
     abbrev keep : Macros → Out (Made Store)
     keep k = do

@@ -7,6 +7,7 @@ use Prim.Native.Nat.{ℕ, _+_, _-_, _≤_, _<_}
 use native.Mathlib.Omega.{arith}
 use lib.ListN.{length, getD, drop, length-take}
 use Rattle.aries.specs.Text.{lines}
+use Rattle.aries.specs.declared.reader.Reader.{Reader}
 use Rattle.aries.specs.Bodies.{isOwnClose, longer, bodySize}
 use Rattle.text.specs.Lines.{lineLength, lineAt, lineEnd}
 use Rattle.text.proofs.Lines.{line-short, lines-at, lines-past, first-byte}
@@ -19,20 +20,20 @@ module _ (t : List ℕ) (at : ℕ) (h : at < length t) where
   line-marks : marks (getD (lineAt t at) 0 0) ≡ marks (getD t at 0)
   line-marks = first-byte marks refl refl t at h
 
-  module _ (n : ℕ) where
+  module _ (r : Reader) (n : ℕ) where
     -- a U or V line ends the search
-    size-mark : marks (getD t at 0) ≡ true → bodySize n (lines (drop at t)) ≡ cond (isOwnClose n (lineAt t at)) (some 0) none
+    size-mark : marks (getD t at 0) ≡ true → bodySize r n (lines (drop at t)) ≡ cond (isOwnClose r n (lineAt t at)) (some 0) none
     unfolding bodySize
-    size-mark m = ap (bodySize n) (lines-at t at h) ∙ simp (bodySize, line-marks, m)
+    size-mark m = ap (bodySize r n) (lines-at t at h) ∙ simp (bodySize, line-marks, m)
 
     -- another line belongs to the body
     size-other :
-        marks (getD t at 0) ≡ false → bodySize n (lines (drop at t)) ≡ longer (lineLength (drop at t) + 1) (bodySize n (lines (drop (lineEnd t at + 1) t)))
+        marks (getD t at 0) ≡ false → bodySize r n (lines (drop at t)) ≡ longer (lineLength (drop at t) + 1) (bodySize r n (lines (drop (lineEnd t at + 1) t)))
     unfolding bodySize
     size-other m =
         let s = line-short (drop at t) in
         let k : length (lineAt t at) ≡ lineLength (drop at t) = simp length-take (omega arith) in
-        ap (bodySize n) (lines-at t at h) ∙ simp (bodySize, line-marks, m, k)
+        ap (bodySize r n) (lines-at t at h) ∙ simp (bodySize, line-marks, m, k)
 
 -- ---- From line to line
 
@@ -45,13 +46,13 @@ longer-zero : (k : ℕ) (size : Option ℕ) → k ≡ 0 → size ≡ longer k si
 longer-zero k none e = refl
 longer-zero k (some n) e = let d : n ≡ k + n = omega arith in ap some d
 
-module _ (n : ℕ) (t : List ℕ) (from : ℕ) where
+module _ (r : Reader) (n : ℕ) (t : List ℕ) (from : ℕ) where
   abbrev size : Option ℕ
-  size = bodySize n (lines (drop from t))
+  size = bodySize r n (lines (drop from t))
 
   -- the size from the start, as it is from a line on
   abbrev pub From : ℕ → Type 0
-  From at = size ≡ longer (at - from) (bodySize n (lines (drop at t)))
+  From at = size ≡ longer (at - from) (bodySize r n (lines (drop at t)))
 
   pub from-start : From from
   from-start = let k : from - from ≡ 0 = omega arith in longer-zero (from - from) size k
@@ -62,7 +63,7 @@ module _ (n : ℕ) (t : List ℕ) (from : ℕ) where
   -- no V line up to the end of the text
   pub sized-past : (at : ℕ) → length t ≤ at → From at → Sized t from Missing size
   unfolding bodySize
-  sized-past at h s = sized-none (s ∙ ap (λ (ls : List (List ℕ)). longer (at - from) (bodySize n ls)) (lines-past t at h))
+  sized-past at h s = sized-none (s ∙ ap (λ (ls : List (List ℕ)). longer (at - from) (bodySize r n ls)) (lines-past t at h))
 
   module _ (at : ℕ) (h : at < length t) (s : From at) where
     -- another line
@@ -70,21 +71,21 @@ module _ (n : ℕ) (t : List ℕ) (from : ℕ) where
     from-other f m =
         let k : at - from + (lineLength (drop at t) + 1) ≡ lineEnd t at + 1 - from = omega arith in
         s
-        ∙ ap (longer (at - from)) (size-other t at h n m)
-        ∙ longer-again (at - from) (lineLength (drop at t) + 1) (lineEnd t at + 1 - from) (bodySize n (lines (drop (lineEnd t at + 1) t))) k
+        ∙ ap (longer (at - from)) (size-other t at h r n m)
+        ∙ longer-again (at - from) (lineLength (drop at t) + 1) (lineEnd t at + 1 - from) (bodySize r n (lines (drop (lineEnd t at + 1) t))) k
 
     module _ (m : marks (getD t at 0) ≡ true) where
-      at-mark : (b : Bool) → isOwnClose n (lineAt t at) ≡ b → size ≡ longer (at - from) (cond b (some 0) none)
-      at-mark b o = s ∙ ap (longer (at - from)) (size-mark t at h n m ∙ ap (λ (x : Bool). cond x (some 0) none) o)
+      at-mark : (b : Bool) → isOwnClose r n (lineAt t at) ≡ b → size ≡ longer (at - from) (cond b (some 0) none)
+      at-mark b o = s ∙ ap (longer (at - from)) (size-mark t at h r n m ∙ ap (λ (x : Bool). cond x (some 0) none) o)
 
       -- the own V line
-      pub sized-own : from ≤ at → isOwnClose n (lineAt t at) ≡ true → Sized t from (Bytes (at - from)) size
+      pub sized-own : from ≤ at → isOwnClose r n (lineAt t at) ≡ true → Sized t from (Bytes (at - from)) size
       sized-own f o =
           let k : at - from + 0 ≡ at - from = omega arith in
           record { same = sym (ap sizeOf (at-mark true o ∙ ap some k)); inside = λ i b. let e : at - from ≡ i = cc in omega arith }
 
       -- another U or V line
-      pub sized-other : isOwnClose n (lineAt t at) ≡ false → Sized t from Missing size
+      pub sized-other : isOwnClose r n (lineAt t at) ≡ false → Sized t from Missing size
       sized-other o = sized-none (at-mark false o)
 
 -- ---- What the answer says

@@ -3,6 +3,7 @@ use aries::block::Block;
 use aries::block::Decoded;
 use aries::block::Outside;
 use aries::macros::Macros;
+use aries::reader::Reader;
 use aries::refusal;
 use aries::setup::Setup;
 use aries::setup::Sheet;
@@ -34,10 +35,10 @@ enum Size {
 }
 
 // Whether the line at a place is the V line of a macro.
-fn is_own_close(number: u8, text: &[u8], at: usize) -> bool
-    ensures { λ r. ⌜ r ≡ isOwnClose number (lineAt (now (text .entry)) at) ⌝ }
+fn is_own_close(reader: Reader, number: u8, text: &[u8], at: usize) -> bool
+    ensures { λ r. ⌜ r ≡ isOwnClose reader number (lineAt (now (text .entry)) at) ⌝ }
 {
-    let decoded = decode::decode(text, at);
+    let decoded = decode::decode(reader, text, at);
     let Decoded::Instruction(instruction, _) = decoded else {
         return false;
     };
@@ -62,13 +63,13 @@ fn is_mark(first: u8) -> bool
 }
 
 // The bytes from a place of the text to the next U or V line, if that is the V line of a macro.
-fn body_size(number: u8, text: &[u8], from: usize) -> Size
-    ensures { λ r. ⌜ Sized (now (text .entry)) from r (bodySize number (lines (drop from (now (text .entry))))) ⌝ }
+fn body_size(reader: Reader, number: u8, text: &[u8], from: usize) -> Size
+    ensures { λ r. ⌜ Sized (now (text .entry)) from r (bodySize reader number (lines (drop from (now (text .entry))))) ⌝ }
 {
     let mut at = from;
     while at < text.len() {
         if is_mark(text[at]) {
-            if is_own_close(number, text, at) {
+            if is_own_close(reader, number, text, at) {
                 return Size::Bytes(at - from);
             }
             return Size::Missing;
@@ -142,7 +143,8 @@ pub fn open_body(
     requires { ⌜ (length (now text) ≤ 60000) × (line < 65535) ⌝ }
     ensures { λ r. ⌜ Opens r (setup .job) (lent (now (list .entry))) (lent (now (list .exit))) (withStored macros progress) (λ j. openBody j (now (text .entry)) number start line (lines (drop start (now (text .entry)))) setup) ⌝ }
 {
-    let found = body_size(number, text, start);
+    let frame = setup.frame();
+    let found = body_size(frame.reader(), number, text, start);
     let Size::Bytes(size) = found else {
         return Opened {
             status: Status::Refused(refusal::NOT_CLOSED, line),

@@ -1,9 +1,9 @@
 -- Where a stretch ends at a block: the line of that block ends behind the place where the stretch began, within the text, and
 -- its number goes up with the place.
-use mathlib.Core.Path.{_≡_, refl, sym, ap, _∙_, subst}
+use mathlib.Core.Path.{_≡_, refl, sym, ap, _∙_}
 use mathlib.Core.Bool.{Bool, true, false, true≢false}
 use mathlib.Core.List.{List, [], _∷_, head-eq-of-cons-eq, tail-eq-of-cons-eq}
-use Prim.Native.Nat.{ℕ, zero, suc, _+_, _<_, _≤_}
+use Prim.Native.Nat.{ℕ, suc, _+_, _<_, _≤_}
 use native.Mathlib.Omega.{arith}
 use borrow.Author.Tests.{ltb-true, ltb-false}
 use lib.Dec.{ltb}
@@ -16,7 +16,7 @@ use Rattle.aries.specs.declared.state.Progress.{Progress}
 use Rattle.aries.specs.declared.state.Status.{Status}
 use Rattle.aries.specs.declared.state.Status.the-variants.{Passed}
 use Rattle.aries.specs.Outcome.{Out, done, refused}
-use Rattle.aries.specs.Hits.{Hit, Made, adding}
+use Rattle.aries.specs.Hits.{Made, adding}
 use Rattle.aries.specs.Judging.{Judging}
 use Rattle.aries.specs.Macros.{carryDirect, Begun, begin}
 use Rattle.aries.specs.Runs.{statusOf}
@@ -81,7 +81,7 @@ module _ (t : List ℕ) (j : Judging) (f : Frame) where
   -- one line
   line-stops : (at line : ℕ) (l : List ℕ) (g : Progress) → at + length l ≤ length t → StepStops t at line (lineStep j f (at + length l) line l g)
   line-stops at line [] g h = tt
-  line-stops at line (b ∷ bs) g h = begins (begin j line (b ∷ bs) g)
+  line-stops at line (b ∷ bs) g h = begins (begin j f line (b ∷ bs) g)
     where
       behind : Behind t at line (at + length (b ∷ bs)) line
       behind = record { after = omega arith; inside = h; paced = omega arith }
@@ -134,7 +134,7 @@ onward-ends (goes m) rest s r = added (rest (m .after) .made) (rest (m .after) .
 module _ (j : Judging) (f : Frame) where
   line-ends-as : (end line : ℕ) (l : List ℕ) (g : Progress) → StepEnds (lineStep j f end line l g)
   line-ends-as end line [] g = tt
-  line-ends-as end line (b ∷ bs) g = begins (begin j line (b ∷ bs) g)
+  line-ends-as end line (b ∷ bs) g = begins (begin j f line (b ∷ bs) g)
     where
       carried : (out : Out (Made Progress)) → StepEnds (stepOf out)
       carried (done m) = tt

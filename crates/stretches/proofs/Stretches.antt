@@ -95,7 +95,7 @@ module _ (j : Judging) (f : Frame) where
           rw (lines-past t (end + 1) (omega arith), lines-past t end i) refl
 
   -- a line with a block in it
-  line-step : (end line : ℕ) (l : List ℕ) (g : Progress) → 0 < length l → lineStep j f end line l g ≡ begunStep j f end line (begin j line l g)
+  line-step : (end line : ℕ) (l : List ℕ) (g : Progress) → 0 < length l → lineStep j f end line l g ≡ begunStep j f end line (begin j f line l g)
   line-step end line [] g h = absurd (omega arith)
   line-step end line (b ∷ bs) g h = refl
 
@@ -103,7 +103,7 @@ module _ (j : Judging) (f : Frame) where
   pub stretch-block :
       (t : List ℕ) (at line : ℕ) (g : Progress) → at < length t → (getD t at 0 ≡ lineFeed → ⊥)
       → stretch j f at line (lines (drop at t)) g
-      ≡ onward (begunStep j f (lineEnd t at) line (begin j line (lineAt t at) g)) (stretch j f (lineEnd t at) line (lines (drop (lineEnd t at) t)))
+      ≡ onward (begunStep j f (lineEnd t at) line (begin j f line (lineAt t at) g)) (stretch j f (lineEnd t at) line (lines (drop (lineEnd t at) t)))
   unfolding stretch
   stretch-block t at line g h n =
       ap (λ (ls : List (List ℕ)). stretch j f at line ls g) (lines-at t at h)

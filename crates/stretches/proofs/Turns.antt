@@ -20,10 +20,10 @@ use Rattle.aries.specs.declared.block.Instruction.{Instruction}
 use Rattle.aries.specs.declared.job.Job.{Job}
 use Rattle.aries.specs.declared.state.Frame.{Frame}
 use Rattle.aries.specs.declared.state.Progress.{Progress}
-use Rattle.aries.specs.Outcome.{Out, done, refused}
-use Rattle.aries.specs.Judging.{Judging, limits}
+use Rattle.aries.specs.Outcome.{Out, refused}
+use Rattle.aries.specs.Judging.{limits}
 use Rattle.aries.specs.Letters.{letterV}
-use Rattle.aries.specs.Blocks.{decode}
+use Rattle.aries.specs.Reader.{readerOf}
 use Rattle.aries.specs.Macros.{carryDirect, Begun, isCounted, mayCome, begun, begin}
 use Rattle.aries.specs.Text.{lines, lineFeed}
 use Rattle.text.specs.Lines.{lineLength, lineAt, lineEnd}
@@ -65,30 +65,30 @@ module _ (job : Job) (f : Frame) (t : List ℕ) (at line : ℕ) (g : Progress) (
   same-counted : isCounted (lineAt t at) ≡ counted
   same-counted = ap (λ (b : ℕ). not (eqb b letterV)) first-byte
 
-  block-here : {x : Out Begun} → begin (limits job) line (lineAt t at) g ≡ x → here ≡ onward (begunStep (limits job) f (lineEnd t at) line x) (stretch (limits job) f (lineEnd t at) line (lines (drop (lineEnd t at) t)))
+  block-here : {x : Out Begun} → begin (limits job) f line (lineAt t at) g ≡ x → here ≡ onward (begunStep (limits job) f (lineEnd t at) line x) (stretch (limits job) f (lineEnd t at) line (lines (drop (lineEnd t at) t)))
   block-here e = stretch-block (limits job) f t at line g inside block ∙ ap (λ (x : Out Begun). onward (begunStep (limits job) f (lineEnd t at) line x) (stretch (limits job) f (lineEnd t at) line (lines (drop (lineEnd t at) t)))) e
 
   -- one block too many
   pub turn-spent : counted && leb 100000 (g .blocks) ≡ true → here ≡ refusedAt 3 line
-  turn-spent e = block-here (begin-spent (limits job) line (lineAt t at) g (rw same-counted (spent counted (g .blocks) e)))
+  turn-spent e = block-here (begin-spent (limits job) f line (lineAt t at) g (rw same-counted (spent counted (g .blocks) e)))
 
   module _ (room : counted && leb 100000 (g .blocks) ≡ false) where
     may : mayCome (limits job) (lineAt t at) g ≡ true
     may = rw same-counted (not-spent counted (g .blocks) room)
 
     -- the line is refused
-    pub turn-refused : (number : ℕ) → decodedAt t at ≡ Decoded.Refused number → here ≡ refusedAt number line
-    turn-refused number e = block-here (begin-refused (limits job) line (lineAt t at) g may number (decoded-refused t at number e))
+    pub turn-refused : (number : ℕ) → decodedAt (readerOf f) t at ≡ Decoded.Refused number → here ≡ refusedAt number line
+    turn-refused number e = block-here (begin-refused (limits job) f line (lineAt t at) g may number (decoded-refused (readerOf f) t at number e))
 
-    module _ (i : Instruction) (end : ℕ) (e : decodedAt t at ≡ Decoded.Instruction i end) where
+    module _ (i : Instruction) (end : ℕ) (e : decodedAt (readerOf f) t at ≡ Decoded.Instruction i end) where
       -- the progress as the block finds it
       abbrev begins : Progress
       begins = begun counted (i .measure) g
 
       found : (b : Block) → i .block ≡ b → here ≡ onward (blockStep (limits job) f end line b begins) (stretch (limits job) f end line (lines (drop end t)))
       found b q =
-          let d = decoded-instruction t at i end e in
-          block-here (begin-done (limits job) line (lineAt t at) g may i (d .0)) ∙ rw (same-counted, d .1, q) refl
+          let d = decoded-instruction (readerOf f) t at i end e in
+          block-here (begin-done (limits job) f line (lineAt t at) g may i (d .0)) ∙ rw (same-counted, d .1, q) refl
 
       pub turn-direct :
           (d : Direct) → i .block ≡ Block.Direct d

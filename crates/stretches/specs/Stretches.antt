@@ -11,7 +11,7 @@ use Rattle.aries.specs.declared.block.Block.the-variants as Block
 use Rattle.aries.specs.declared.state.Frame.{Frame}
 use Rattle.aries.specs.declared.state.Progress.{Progress}
 use Rattle.aries.specs.Outcome.{Out, done, refused}
-use Rattle.aries.specs.Hits.{Hit, Made, noHit, adding}
+use Rattle.aries.specs.Hits.{Made, noHit, adding}
 use Rattle.aries.specs.Judging.{Judging, limits}
 use Rattle.aries.specs.Macros.{carryDirect, Begun, begin}
 use Rattle.aries.specs.Runs.{Lent, Ran, hitsMade}
@@ -59,7 +59,7 @@ begunStep j f end line (done b) = blockStep j f end line (b .block) (b .progress
 -- a line, by the place where it ends; a blank one does nothing
 abbrev pub lineStep : Judging → Frame → ℕ → ℕ → List ℕ → Progress → Step
 lineStep j f end line [] g = goes (record { hits = []; after = g })
-lineStep j f end line (b ∷ bs) g = begunStep j f end line (begin j line (b ∷ bs) g)
+lineStep j f end line (b ∷ bs) g = begunStep j f end line (begin j f line (b ∷ bs) g)
 
 -- one step, and what follows it
 abbrev pub onward : Step → (Progress → Stretched) → Stretched

@@ -13,6 +13,7 @@ use aries::state::Status;
 ghost use mathlib.Core.Path.{_≡_};
 ghost use lib.ListN.{drop};
 ghost use Rattle.aries.specs.declared.state.Status.the-variants.{Passed, Refused};
+ghost use Rattle.aries.specs.Reader.{readerOf};
 ghost use Rattle.aries.specs.Runs.{lent};
 ghost use Rattle.aries.specs.Text.{lines};
 ghost use Rattle.stretches.specs.declared.Stop.the-variants.{End};
@@ -100,16 +101,17 @@ pub enum Ahead {
     Block(usize, u64, Decoded),
 }
 
-// Looks for the next block from a place of the text on, where the line has a number, and decodes it.
-pub fn look_ahead(text: &[u8], from: usize, first: u64) -> Ahead
+// Looks for the next block from a place of the text on, where the line has a number, and decodes it as the frame has it read.
+pub fn look_ahead(frame: Frame, text: &[u8], from: usize, first: u64) -> Ahead
     requires { ⌜ LinesFit first from (now text) ⌝ }
-    ensures { λ r. ⌜ r ≡ ahead (now (text .entry)) from first ⌝ }
+    ensures { λ r. ⌜ r ≡ ahead (readerOf frame) (now (text .entry)) from first ⌝ }
 {
     let at = text::next_block(text, from);
     if text.len() <= at {
         return Ahead::Nothing;
     }
-    Ahead::Block(at, first + ((at - from) as u64), decode::decode(text, at))
+    let decoded = decode::decode(frame.reader(), text, at);
+    Ahead::Block(at, first + ((at - from) as u64), decoded)
 }
 
 // The direct blocks from a place of the text on, where the line has a number, the first of them decoded already: up to a
@@ -124,7 +126,7 @@ pub fn run_stretch(
     progress: Progress,
 ) -> Stretch
     requires { ⌜ LinesFit first from (now text) ⌝ }
-    requires { ⌜ start ≡ ahead (now text) from first ⌝ }
+    requires { ⌜ start ≡ ahead (readerOf frame) (now text) from first ⌝ }
     ensures { λ r. ⌜ Stretches r frame (lent (now (list .entry))) (lent (now (list .exit))) progress (λ j. stretch j frame from first (lines (drop from (now (text .entry))))) ⌝ }
 {
     let mut now = progress;
@@ -169,7 +171,7 @@ pub fn run_stretch(
                 }
                 at = end;
                 line = number;
-                next = look_ahead(text, at, line);
+                next = look_ahead(frame, text, at, line);
             }
         }
     }

@@ -11,12 +11,14 @@ use lib.ListN.{length, take, replicate}
 use Rattle.aries.specs.declared.answer.Answer.{Answer}
 use Rattle.aries.specs.declared.answer.Answer.the-variants as Answer
 use Rattle.aries.specs.declared.job.Job.{Job}
+use Rattle.aries.specs.declared.reader.Setting.{Setting}
 use Rattle.aries.specs.declared.setup.Program.{Program}
 use Rattle.aries.specs.declared.state.Status.{Status}
 use Rattle.aries.specs.declared.state.Status.the-variants.{Passed, Refused}
 use Rattle.aries.specs.Outcome.{Out, done, refused}
 use Rattle.aries.specs.Text.{longest, lines, strayLine, withoutSpaces}
 use Rattle.aries.specs.Hits.{Hit, Made}
+use Rattle.aries.specs.Reader.{settingOf}
 use Rattle.aries.specs.Judging.{lending, limits}
 use Rattle.aries.specs.Program.{freshProgram, isEnded, runFrom, perform, expand, listOf}
 use Rattle.aries.specs.Runs.{Lent, lent, hitsOfProgram, Ran}
@@ -42,9 +44,9 @@ answers-as e a = rw e at a
 
 -- ---- The ways out of a performance
 
-module _ (list after : List ℤ) (text : List ℕ) (last : ℕ) where
+module _ (setting : Setting) (list after : List ℤ) (text : List ℕ) (last : ℕ) where
   abbrev job : Job
-  job = lending (length list)
+  job = lending setting (length list)
 
   abbrev run : Out (Made Program)
   run = runFrom (limits job) text 0 1 (lines text) (freshProgram job)
@@ -103,21 +105,22 @@ pub dense-found : (found : Option ℕ) (dense : List ℕ) (n : ℕ) → Dense n 
 dense-found (some l) dense n e = let z : _≡_ {A = ℕ} 0 1 = cc in absurd (omega arith)
 dense-found none dense n e = let k : n ≡ length dense = cc in (refl, k)
 
-module _ (text : List ℕ) (numbers : ℕ) where
-  pub after-stray : {line : ℕ} → strayLine 1 text ≡ some line → afterCleaning text numbers ≡ refused 2 line
+module _ (setting : Setting) (text : List ℕ) (numbers : ℕ) where
+  pub after-stray : {line : ℕ} → strayLine 1 text ≡ some line → afterCleaning setting text numbers ≡ refused 2 line
   after-stray e = simp e
 
-  pub after-dense : strayLine 1 text ≡ none → afterCleaning text numbers ≡ perform (lending numbers) (withoutSpaces text) (length (lines text))
+  pub after-dense : strayLine 1 text ≡ none → afterCleaning setting text numbers ≡ perform (lending setting numbers) (withoutSpaces text) (length (lines text))
   after-dense e = simp e
 
-  pub expand-empty : length text ≡ 0 → expand text numbers ≡ refused 1 0
+module _ (setting : ℤ) (text : List ℕ) (numbers : ℕ) where
+  pub expand-empty : length text ≡ 0 → expand setting text numbers ≡ refused 1 0
   unfolding expand
   expand-empty e = simp e
 
-  pub expand-long : longest < length text → expand text numbers ≡ refused 1 0
+  pub expand-long : longest < length text → expand setting text numbers ≡ refused 1 0
   unfolding expand
   expand-long h = let n : 1 ≤ length text = omega arith in simp (le-leb 1 (length text) n, lt-leb (length text) longest h)
 
-  pub expand-through : 1 ≤ length text → length text ≤ longest → expand text numbers ≡ afterCleaning text numbers
+  pub expand-through : 1 ≤ length text → length text ≤ longest → expand setting text numbers ≡ afterCleaning (settingOf setting) text numbers
   unfolding expand
   expand-through h k = simp (le-leb 1 (length text) h, le-leb (length text) longest k)

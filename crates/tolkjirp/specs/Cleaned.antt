@@ -2,6 +2,7 @@
 use mathlib.Core.List.{List}
 use Prim.Native.Nat.{ℕ}
 use lib.ListN.{length}
+use Rattle.aries.specs.declared.reader.Setting.{Setting}
 use Rattle.aries.specs.Outcome.{Out, _>>=_}
 use Rattle.aries.specs.Text.{strayLine, withoutSpaces, lines}
 use Rattle.aries.specs.Hits.{Hit}
@@ -9,7 +10,7 @@ use Rattle.aries.specs.Judging.{lending}
 use Rattle.aries.specs.Program.{noStray, perform}
 
 -- 2 looks at the whole text, and then its blocks are carried out
-abbrev pub afterCleaning : List ℕ → ℕ → Out (List Hit)
-afterCleaning text numbers = do
+abbrev pub afterCleaning : Setting → List ℕ → ℕ → Out (List Hit)
+afterCleaning setting text numbers = do
   _ ← noStray (strayLine 1 text)
-  perform (lending numbers) (withoutSpaces text) (length (lines text))
+  perform (lending setting numbers) (withoutSpaces text) (length (lines text))

@@ -15,12 +15,18 @@ fn three_numbers(answer: Answer) -> [u64; 3]
     }
 }
 
-// Expands a program text into a lent list, four numbers a hit: X, Y, tool and mode. What the hits leave of the list is
-// zero, and after a refusal all of it. The answer takes the refusal's number or 0, the count of hits, the refusal's line.
+// Expands a program text, at the decimal point setting that a number states, into a lent list, four numbers a hit: X, Y, tool
+// and mode. What the hits leave of the list is zero, and after a refusal all of it. The answer takes the refusal's number or
+// 0, the count of hits, the refusal's line.
 #[no_mangle]
-pub extern "C" fn tolkjirp_expand(text: &[u8], list: &mut [i32], answer: &mut [u64; 3])
-    ensures { λ _. ⌜ Exported (now (answer .exit)) (now (list .exit)) (length (now (list .entry))) (expand (now (text .entry)) (length (now (list .entry)))) ⌝ }
+pub extern "C" fn tolkjirp_expand(
+    setting: i32,
+    text: &[u8],
+    list: &mut [i32],
+    answer: &mut [u64; 3],
+)
+    ensures { λ _. ⌜ Exported (now (answer .exit)) (now (list .exit)) (length (now (list .entry))) (expand setting (now (text .entry)) (length (now (list .entry)))) ⌝ }
 {
-    let numbers = three_numbers(crate::expand(text, list));
+    let numbers = three_numbers(crate::expand(setting, text, list));
     *answer = numbers;
 }

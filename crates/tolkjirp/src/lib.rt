@@ -4,6 +4,7 @@ pub mod exported; // the entry for C and Rust
 use aries::answer::Answer;
 use aries::job::Job;
 use aries::job::NUMBERS;
+use aries::reader::Setting;
 use aries::refusal;
 use aries::setup::Stage;
 use aries::state::Status;
@@ -61,11 +62,11 @@ fn is_ended(stage: Stage) -> bool
 }
 
 // The blocks of a text without its spaces; whole is the text with them, whose last line a missing G50 is refused in.
-fn perform(list: &mut [i32], text: &[u8], whole: &[u8]) -> Answer
+fn perform(setting: Setting, list: &mut [i32], text: &[u8], whole: &[u8]) -> Answer
     requires { ⌜ length (now text) ≤ longest ⌝ }
-    ensures { λ r. ⌜ Answers r (now (list .exit)) (length (now (list .entry))) (perform (lending (length (now (list .entry)))) (now (text .entry)) (length (lines (now (whole .entry))))) ⌝ }
+    ensures { λ r. ⌜ Answers r (now (list .exit)) (length (now (list .entry))) (perform (lending setting (length (now (list .entry)))) (now (text .entry)) (length (lines (now (whole .entry))))) ⌝ }
 {
-    let job = Job::lending(list.len());
+    let job = Job::lending(setting, list.len());
     let run = run_text(job, list, text);
     let status = run.status;
     if let Status::Refused(number, line) = status {
@@ -82,48 +83,48 @@ fn perform(list: &mut [i32], text: &[u8], whole: &[u8]) -> Answer
 }
 
 // A text of a length that is allowed, by way of a buffer for its bytes other than spaces.
-fn expand_through(text: &[u8], buffer: &mut [u8], list: &mut [i32]) -> Answer
+fn expand_through(setting: Setting, text: &[u8], buffer: &mut [u8], list: &mut [i32]) -> Answer
     requires { ⌜ (length (now text) ≤ longest) × (length (now text) ≤ length (now buffer)) ⌝ }
-    ensures { λ r. ⌜ Answers r (now (list .exit)) (length (now (list .entry))) (afterCleaning (now (text .entry)) (length (now (list .entry)))) ⌝ }
+    ensures { λ r. ⌜ Answers r (now (list .exit)) (length (now (list .entry))) (afterCleaning setting (now (text .entry)) (length (now (list .entry)))) ⌝ }
 {
     let cleaned = text::clean(text, buffer);
     match cleaned {
         Cleaned::Stray(line) => refuse(list, refusal::STRAY_BYTE, line),
-        Cleaned::Dense(n) => perform(list, &buffer[..n], text),
+        Cleaned::Dense(n) => perform(setting, list, &buffer[..n], text),
     }
 }
 
 // A tiny text, in a tiny buffer.
-fn expand_tiny(text: &[u8], list: &mut [i32]) -> Answer
+fn expand_tiny(setting: Setting, text: &[u8], list: &mut [i32]) -> Answer
     requires { ⌜ length (now text) ≤ 256 ⌝ }
-    ensures { λ r. ⌜ Answers r (now (list .exit)) (length (now (list .entry))) (afterCleaning (now (text .entry)) (length (now (list .entry)))) ⌝ }
+    ensures { λ r. ⌜ Answers r (now (list .exit)) (length (now (list .entry))) (afterCleaning setting (now (text .entry)) (length (now (list .entry)))) ⌝ }
 {
     let mut buffer = [0u8; TINY];
-    expand_through(text, &mut buffer, list)
+    expand_through(setting, text, &mut buffer, list)
 }
 
 // A short text, in a small buffer.
-fn expand_short(text: &[u8], list: &mut [i32]) -> Answer
+fn expand_short(setting: Setting, text: &[u8], list: &mut [i32]) -> Answer
     requires { ⌜ length (now text) ≤ 4096 ⌝ }
-    ensures { λ r. ⌜ Answers r (now (list .exit)) (length (now (list .entry))) (afterCleaning (now (text .entry)) (length (now (list .entry)))) ⌝ }
+    ensures { λ r. ⌜ Answers r (now (list .exit)) (length (now (list .entry))) (afterCleaning setting (now (text .entry)) (length (now (list .entry)))) ⌝ }
 {
     let mut buffer = [0u8; SHORT];
-    expand_through(text, &mut buffer, list)
+    expand_through(setting, text, &mut buffer, list)
 }
 
 // Any other text that is not too long.
-fn expand_long(text: &[u8], list: &mut [i32]) -> Answer
+fn expand_long(setting: Setting, text: &[u8], list: &mut [i32]) -> Answer
     requires { ⌜ length (now text) ≤ longest ⌝ }
-    ensures { λ r. ⌜ Answers r (now (list .exit)) (length (now (list .entry))) (afterCleaning (now (text .entry)) (length (now (list .entry)))) ⌝ }
+    ensures { λ r. ⌜ Answers r (now (list .exit)) (length (now (list .entry))) (afterCleaning setting (now (text .entry)) (length (now (list .entry)))) ⌝ }
 {
     let mut buffer = [0u8; LONGEST];
-    expand_through(text, &mut buffer, list)
+    expand_through(setting, text, &mut buffer, list)
 }
 
-// Expands a program text into a lent list, four numbers a hit: X, Y, tool and mode. What the hits leave of the list is
-// zero, and after a refusal all of it.
-pub fn expand(text: &[u8], list: &mut [i32]) -> Answer
-    ensures { λ r. ⌜ Answers r (now (list .exit)) (length (now (list .entry))) (expand (now (text .entry)) (length (now (list .entry)))) ⌝ }
+// Expands a program text, at the decimal point setting that a number states, 0 or any other for 1, into a lent list, four
+// numbers a hit: X, Y, tool and mode. What the hits leave of the list is zero, and after a refusal all of it.
+pub fn expand(setting: i32, text: &[u8], list: &mut [i32]) -> Answer
+    ensures { λ r. ⌜ Answers r (now (list .exit)) (length (now (list .entry))) (expand setting (now (text .entry)) (length (now (list .entry)))) ⌝ }
 {
     if text.len() == 0 {
         return refuse(list, refusal::TEXT_LENGTH, 0);
@@ -131,11 +132,12 @@ pub fn expand(text: &[u8], list: &mut [i32]) -> Answer
     if LONGEST < text.len() {
         return refuse(list, refusal::TEXT_LENGTH, 0);
     }
+    let stated = Setting::of(setting);
     if text.len() <= TINY {
-        return expand_tiny(text, list);
+        return expand_tiny(stated, text, list);
     }
     if text.len() <= SHORT {
-        return expand_short(text, list);
+        return expand_short(stated, text, list);
     }
-    expand_long(text, list)
+    expand_long(stated, text, list)
 }

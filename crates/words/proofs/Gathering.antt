@@ -131,16 +131,16 @@ module _ (t : List ℕ) (from at : ℕ) (before : List LetterWord) (g : Goes t f
 
     pub gathers :
         (r : Summary) (forms : List ℕ) (numbers : List ℤ) → r ≡ summaryOf (eqb (lineLength (drop at t)) 0) at before
-        → lettersOf forms numbers ≡ byLetter before .letters
+        → lettersOf forms numbers ≡ byLetter before .letters → length numbers ≡ 26
         → Gathers line from r forms numbers
-    gathers r forms numbers s l =
+    gathers r forms numbers s l n =
         let whole : isSome (words line) ≡ eqb (lineLength (drop at t)) 0 =
         all-formed line
         ∙ rw ended
         (same-test (sizeOf before) (length line) (lineLength (drop at t)) 0
         (λ h. omega (arith, g .left, line-length (drop from t)))
         (λ h. omega (arith, g .left, line-length (drop from t)))) in
-        record { told = rw (whole, ended, ← g .here) s; letters = rw ended l }
+        record { told = rw (whole, ended, ← g .here) s; letters = rw ended l; all = n }
 
 -- ---- What the answer says
 

@@ -71,6 +71,17 @@ first-set (suc n) (f ∷ forms) (m ∷ numbers) zero form number h k = refl
 first-set (suc n) (f ∷ forms) (m ∷ numbers) (suc i) form number h k =
     ap (λ (vs : Letters). wordIn f m ∷ vs) (first-set n forms numbers i form number (omega arith) (omega arith))
 
+first-number :
+    (n : ℕ) (forms : List ℕ) (numbers : List ℤ) (i : ℕ) (number : ℤ) → i < length numbers
+    → firstWords n forms (set numbers i number) ≡ set (firstWords n forms numbers) i (wordIn (getD forms i 0) number)
+first-number zero forms numbers i number h = refl
+first-number (suc n) forms [] i number h = absurd (not-suc-le-zero h)
+first-number (suc n) forms (m ∷ numbers) zero number h = refl
+first-number (suc n) forms (m ∷ numbers) (suc i) number h =
+    ap (λ (vs : Letters). wordIn (getD forms 0 0) m ∷ vs)
+    (first-number n (drop 1 forms) numbers i number (omega arith)
+    ∙ ap (λ (f : ℕ). set (firstWords n (drop 1 forms) numbers) i (wordIn f number)) (past-first forms i 0))
+
 -- the word at a place
 pub letters-at :
     (forms : List ℕ) (numbers : List ℤ) (i : ℕ) → i < 26
@@ -84,6 +95,13 @@ pub letters-set :
     → lettersOf (set forms i form) (set numbers i number) ≡ set (lettersOf forms numbers) i (wordIn form number)
 unfolding lettersOf
 letters-set forms numbers i form number h k = first-set 26 forms numbers i form number h k
+
+-- another number in the form that stands there
+pub letters-number :
+    (forms : List ℕ) (numbers : List ℤ) (i : ℕ) (number : ℤ) → i < length numbers
+    → lettersOf forms (set numbers i number) ≡ set (lettersOf forms numbers) i (wordIn (getD forms i 0) number)
+unfolding lettersOf
+letters-number forms numbers i number h = first-number 26 forms numbers i number h
 
 -- none yet
 pub letters-none : lettersOf (replicate 26 0) (replicate 26 (pos 0)) ≡ replicate 26 noWord

@@ -1,6 +1,6 @@
 -- By what 15 makes of the place, and by what follows the direct blocks at the front of the part.
 use borrow.Author.Needs.{needs}
-use mathlib.Core.Path.{_≡_, sym, ap, _∙_}
+use mathlib.Core.Path.{sym, ap, _∙_}
 use Prim.Native.Nat.{_-_}
 use Rattle.aries.specs.declared.state.Frame.{Frame}
 use Rattle.aries.specs.declared.state.Outcome.{Outcome}
@@ -11,10 +11,12 @@ use Rattle.aries.specs.Judging.{Judging, limits, near}
 use Rattle.aries.specs.Layouts.{Part, copyStart, partOf, copy}
 use Rattle.aries.specs.Macros.{bodiesOf, Calls, call, mostCalls, runBody}
 use Rattle.aries.specs.Moves.{withState}
+use Rattle.aries.specs.Reader.{readerOf}
 use Rattle.aries.specs.WidePoints.{pointOf}
 use Rattle.aries.specs.Runs.{Lent, lent, Carried}
 use Rattle.aries.specs.Setup.{frameAt}
 use Rattle.aries.proofs.Carried.{carried-refused}
+use Rattle.stretches.specs.Lookahead.{ahead}
 use Rattle.bodies.proofs.Rest.{lines-over, lines-left, left-fits}
 use Rattle.aries.proofs.WidePoints.{at-passed, far-failed}
 use Rattle.copies.specs.Copying.{bodyOf}
@@ -75,6 +77,14 @@ module _ (e : tie.After-is-end) where
       (ap (withState (counts entry)) (begins .copy-start .ensures ∙ ap (copyStart (entry .args .found)) (q .1)))
       h
 
+-- the frame of the copy has blocks read as the part's has
+run-stretch-requires : tie.Need-run-stretch-requires
+run-stretch-requires c κs =
+    let at = c .before .before in
+    let place = at .before .before in
+    let s = place .before .before .before .before .before in
+    (s .pre .0, s .pre .1 ∙ ap (λ (f : Frame). ahead (readerOf f) (s .args .body .now) 0 (s .args .first)) (sym (at .at .ensures)))
+
 returns-2 : tie.Need-returns-2
 unfolding runBody
 returns-2 c =
@@ -106,7 +116,7 @@ copy-at-spec =
     returns
     (λ c κs. search needs)
     (λ c κs. search needs)
-    (λ c κs. search needs)
+    run-stretch-requires
     (λ c κs. search needs)
     (λ c. search needs)
     returns-2

@@ -1,7 +1,8 @@
 -- By whether the part has a block.
 use borrow.Author.Needs.{needs}
-use mathlib.Core.Path.{_≡_, sym, _∙_}
+use mathlib.Core.Path.{sym, _∙_}
 use Rattle.aries.specs.Judging.{limits}
+use Rattle.aries.specs.Reader.{readerOf}
 use Rattle.aries.specs.Macros.{bodiesOf}
 use Rattle.aries.specs.Runs.{lent}
 use Rattle.copies.proofs.CopyPart.{part-blank}
@@ -15,7 +16,7 @@ returns : tie.Need-returns
 returns c =
     let o = c .before .before .before in
     let a = o .before .before .before .args in
-    rw (part-blank (limits (a .frame .job)) (bodiesOf (a .text .now) (a .macros)) (a .first) (a .body .now) (sym (o .look-ahead .ensures) ∙ c .before .enum-told .given .1))
+    rw (part-blank (readerOf (a .frame)) (limits (a .frame .job)) (bodiesOf (a .text .now) (a .macros)) (a .first) (a .body .now) (sym (o .look-ahead .ensures) ∙ c .before .enum-told .given .1))
     (c .copy-blank .ensures (lent (a .list .now)))
 
 copy-body-requires : tie.Need-copy-body-requires

@@ -10,10 +10,10 @@ use Rattle.storing.proofs.body_size.Statement.{statement}
 use Rattle.storing.proofs.body_size.Tie as tie
 
 abbrev Inv-loop : tie.InvT-loop
-Inv-loop number text from at₀ at = (from ≤ at) × From number text from at
+Inv-loop reader number text from at₀ at = (from ≤ at) × From reader number text from at
 
 abbrev μ-loop : tie.MeasureT-loop
-μ-loop number text from at₀ at = length text - at
+μ-loop reader number text from at₀ at = length text - at
 
 -- a line ends within the text
 ends : (c : tie.After-line-end Inv-loop μ-loop) → c .line-end .result ≤ length (c .before .before .before .before .before .before .before .args .text .now)
@@ -27,7 +27,7 @@ returns c =
     let m = c .before .before .before in
     let p = m .before .before .before in
     let a = p .before .before .args in
-    sized-own (a .number) (a .text .now) (a .from) (p .loop .at) (m .before .before .loop-test .taken) (p .loop .inv .1)
+    sized-own (a .reader) (a .number) (a .text .now) (a .from) (p .loop .at) (m .before .before .loop-test .taken) (p .loop .inv .1)
     (sym (m .is-mark .ensures) ∙ c .before .before .if1 .taken) (p .loop .inv .0) (sym (c .before .is-own-close .ensures) ∙ c .if2 .taken)
 
 returns-2 : tie.Need-returns-2 Inv-loop μ-loop
@@ -35,7 +35,7 @@ returns-2 c =
     let m = c .before .before .before in
     let p = m .before .before .before in
     let a = p .before .before .args in
-    sized-other (a .number) (a .text .now) (a .from) (p .loop .at) (m .before .before .loop-test .taken) (p .loop .inv .1)
+    sized-other (a .reader) (a .number) (a .text .now) (a .from) (p .loop .at) (m .before .before .loop-test .taken) (p .loop .inv .1)
     (sym (m .is-mark .ensures) ∙ c .before .before .if1 .taken) (sym (c .before .is-own-close .ensures) ∙ c .if2 .left)
 
 loop-again : tie.Need-loop-again Inv-loop μ-loop
@@ -44,7 +44,7 @@ loop-again c =
     let p = m .before .before .before in
     let a = p .before .before .args in (
       omega (arith, c .line-end .ensures),
-      rw (c .line-end .ensures) (from-other (a .number) (a .text .now) (a .from) (p .loop .at) (m .before .before .loop-test .taken) (p .loop .inv .1)
+      rw (c .line-end .ensures) (from-other (a .reader) (a .number) (a .text .now) (a .from) (p .loop .at) (m .before .before .loop-test .taken) (p .loop .inv .1)
           (p .loop .inv .0) (sym (m .is-mark .ensures) ∙ c .before .if1 .left)),
     )
 
@@ -52,7 +52,7 @@ returns-3 : tie.Need-returns-3 Inv-loop μ-loop
 returns-3 c =
     let p = c .before in
     let a = p .before .before .args in
-    sized-past (a .number) (a .text .now) (a .from) (p .loop .at) (c .loop-test .left) (p .loop .inv .1)
+    sized-past (a .reader) (a .number) (a .text .now) (a .from) (p .loop .at) (c .loop-test .left) (p .loop .inv .1)
 
 pub body-size-spec : {M : Type 1} → statement M
 body-size-spec =
@@ -60,7 +60,7 @@ body-size-spec =
     (tie.spec
     Inv-loop
     μ-loop
-    (λ c. (search needs, let a = c .before .args in from-start (a .number) (a .text .now) (a .from)))
+    (λ c. (search needs, let a = c .before .args in from-start (a .reader) (a .number) (a .text .now) (a .from)))
     (λ c. search needs) (λ c κs. search needs) (λ c κs. search needs) (λ c. search needs)
     returns
     returns-2

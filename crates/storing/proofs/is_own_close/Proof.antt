@@ -8,19 +8,19 @@ use Rattle.storing.proofs.is_own_close.Statement.{statement}
 use Rattle.storing.proofs.is_own_close.Tie as tie
 
 -- the test, of what was decoded,
-decoded : (c : tie.After-decode) → let a = c .before .before .args in isOwnClose (a .number) (lineAt (a .text .now) (a .at)) ≡ isDecodedClose (a .number) (c .decode .result)
+decoded : (c : tie.After-decode) → let a = c .before .before .args in isOwnClose (a .reader) (a .number) (lineAt (a .text .now) (a .at)) ≡ isDecodedClose (a .number) (c .decode .result)
 decoded c =
     let a = c .before .before .args in
-    own-decoded (a .number) (a .text .now) (a .at) ∙ ap (isDecodedClose (a .number)) (sym (c .decode .ensures))
+    own-decoded (a .reader) (a .number) (a .text .now) (a .at) ∙ ap (isDecodedClose (a .number)) (sym (c .decode .ensures))
 
 -- of a block,
-block : (c : tie.After-known-told) → let a = c .before .before .before .before .before .args in isOwnClose (a .number) (lineAt (a .text .now) (a .at)) ≡ closes (a .number) (c .before .decoded .given .0 .0 .block)
+block : (c : tie.After-known-told) → let a = c .before .before .before .before .before .args in isOwnClose (a .reader) (a .number) (lineAt (a .text .now) (a .at)) ≡ closes (a .number) (c .before .decoded .given .0 .0 .block)
 block c =
     let d = c .before .before .before in
     decoded d ∙ ap (isDecodedClose (d .before .before .args .number)) (c .before .decoded .given .1)
 
 -- and of one that stands only outside bodies
-outside : (c : tie.After-known-told2) → let a = c .before .before .before .before .before .before .before .before .args in isOwnClose (a .number) (lineAt (a .text .now) (a .at)) ≡ isClose (a .number) (c .before .block .given .0 .0)
+outside : (c : tie.After-known-told2) → let a = c .before .before .before .before .before .before .before .before .args in isOwnClose (a .reader) (a .number) (lineAt (a .text .now) (a .at)) ≡ isClose (a .number) (c .before .block .given .0 .0)
 outside c =
     let b = c .before .before .before in
     block b ∙ ap (closes (b .before .before .before .before .before .args .number)) (c .before .block .given .1)

@@ -14,6 +14,7 @@ use Rattle.aries.specs.declared.block.Decoded.{Decoded}
 use Rattle.aries.specs.declared.block.Decoded.the-variants as Decoded
 use Rattle.aries.specs.declared.block.Direct.{Direct}
 use Rattle.aries.specs.declared.block.Instruction.{Instruction}
+use Rattle.aries.specs.declared.reader.Reader.{Reader}
 use Rattle.aries.specs.declared.state.Frame.{Frame}
 use Rattle.aries.specs.declared.state.Progress.{Progress}
 use Rattle.aries.specs.declared.state.Status.{Status}
@@ -22,6 +23,7 @@ use Rattle.aries.specs.Outcome.{Out}
 use Rattle.aries.specs.Hits.{Made}
 use Rattle.aries.specs.Judging.{Judging, limits}
 use Rattle.aries.specs.Letters.{letterV}
+use Rattle.aries.specs.Reader.{readerOf}
 use Rattle.aries.specs.Macros.{carryDirect, begun}
 use Rattle.aries.specs.Runs.{lent, Ran, hitsMade}
 use Rattle.aries.specs.Text.{lines}
@@ -40,7 +42,7 @@ use Rattle.stretches.proofs.run_stretch.Tie as tie
 abbrev Inv-loop : tie.InvT-loop
 Inv-loop list₀ text from first frame now₀ at₀ line₀ next₀ list now at line next =
     (line + (length text - at) ≤ first + (length text - from))
-    × (next ≡ ahead text at line)
+    × (next ≡ ahead (readerOf frame) text at line)
     × (length list ≡ length list₀)
     × StretchLeads (frame .job) (lent list) (now .hits) (stretch (limits (frame .job)) frame at line (lines (drop at text)) now) (lent list₀) (now₀ .hits)
     (stretch (limits (frame .job)) frame from first (lines (drop from text)) now₀)
@@ -60,7 +62,7 @@ returns c =
     let j = limits (a .frame .job) in
     stretch-ended (c .passed .result) (a .frame) (lent (a .list .now)) (a .progress) (λ j. stretch j (a .frame) (a .from) (a .first) (lines (drop (a .from) (a .text .now)))) (c .passed .ensures)
     (stretch-skip j (a .frame) (a .text .now) (here .at) (here .line) (here .now)
-    ∙ stretch-end j (a .frame) (a .text .now) _ _ (here .now) (ahead-nothing (a .text .now) (here .at) (here .line) (sym (here .inv .1) ∙ c .before .enum-told .given .1))) (here .inv .3)
+    ∙ stretch-end j (a .frame) (a .text .now) _ _ (here .now) (ahead-nothing (readerOf (a .frame)) (a .text .now) (here .at) (here .line) (sym (here .inv .1) ∙ c .before .enum-told .given .1))) (here .inv .3)
 
 -- ---- A block is ahead
 
@@ -80,6 +82,9 @@ module _ (k : tie.After-known-told Inv-loop μ-loop) where
   abbrev now : Progress
   now = around .loop .now
 
+  abbrev reader : Reader
+  reader = readerOf frame
+
   abbrev place : ℕ
   place = k .before .next .given .0 .0
 
@@ -92,8 +97,8 @@ module _ (k : tie.After-known-told Inv-loop μ-loop) where
   abbrev whole : Judging → Progress → Stretched
   whole j = stretch j frame (entry .args .from) (entry .args .first) (lines (drop (entry .args .from) text))
 
-  meets : Meets text (around .loop .at) (around .loop .line) place number decoded
-  meets = ahead-block text (around .loop .at) (around .loop .line) place number decoded (sym (around .loop .inv .1) ∙ k .before .next .given .1)
+  meets : Meets reader text (around .loop .at) (around .loop .line) place number decoded
+  meets = ahead-block reader text (around .loop .at) (around .loop .line) place number decoded (sym (around .loop .inv .1) ∙ k .before .next .given .1)
 
   -- what is left, from the block on
   lead : StretchLeads (frame .job) (lent (around .loop .list)) (now .hits) (stretch (limits (frame .job)) frame place number (lines (drop place text)) now) (lent (entry .args .list .now)) (entry .args .progress .hits) (whole (limits (frame .job)) (entry .args .progress))
@@ -146,14 +151,14 @@ module _ (b : tie.After-begun Inv-loop μ-loop) where
   abbrev end : ℕ
   end = b .before .before .decoded2 .given .0 .1 .0
 
-  decodes : decodedAt (text at-block) (place at-block) ≡ Decoded.Instruction instruction end
+  decodes : decodedAt (reader at-block) (text at-block) (place at-block) ≡ Decoded.Instruction instruction end
   decodes = meets at-block .decoded ∙ b .before .before .decoded2 .given .1
 
   -- its line ends behind its place, and within the text
   line-end : (place at-block < end) × (end ≤ length (text at-block))
   line-end =
       let k = at-block in
-      let e = decoded-instruction (text k) (place k) instruction end decodes .1 in (
+      let e = decoded-instruction (reader k) (text k) (place k) instruction end decodes .1 in (
         omega (arith, e, line-goes-on (text k) (place k) (meets k .inside) (meets k .block)),
         omega (arith, e, line-inside (text k) (place k) (omega (arith, meets k .inside))),
       )

@@ -54,7 +54,7 @@ returns c =
     let k = s .before .before .before .before in
     let a = entry k .args in
     answers-refused (length (a .list .now)) (f .ensures .0) (f .ensures .1)
-    (after-stray (a .text .now) (length (a .list .now)) (stray-found (strayLine 1 (a .text .now)) (withoutSpaces (a .text .now)) _ (sym (s .cleaned .given .1) ∙ k .clean .ensures .answered)))
+    (after-stray (a .setting) (a .text .now) (length (a .list .now)) (stray-found (strayLine 1 (a .text .now)) (withoutSpaces (a .text .now)) _ (sym (s .cleaned .given .1) ∙ k .clean .ensures .answered)))
 
 returns-2 : tie.Need-returns-2
 returns-2 c =
@@ -62,7 +62,7 @@ returns-2 c =
     let a = entry (cleans k) .args in
     let n = length (a .list .now) in
     answers-as
-    (ap (λ (t : List ℕ). perform (lending n) t (length (lines (a .text .now)))) (held k) ∙ sym (after-dense (a .text .now) n (told k .0))) (c .before .perform .ensures)
+    (ap (λ (t : List ℕ). perform (lending (a .setting) n) t (length (lines (a .text .now)))) (held k) ∙ sym (after-dense (a .setting) (a .text .now) n (told k .0))) (c .before .perform .ensures)
 
 pub expand-through-spec : {M : Type 1} → statement M
 expand-through-spec =

@@ -23,8 +23,8 @@ module _ (c : tie.After-run-text) where
 
   ran :
       let a = entry .args in
-      Ran hitsOfProgram (lending (length (a .list .now))) (c .run-text .result .status) (c .run-text .result .program) (lent (a .list .now)) (lent (c .run-text .last .1 .0)) 0
-      (runFrom (limits (lending (length (a .list .now)))) (a .text .now) 0 1 (lines (a .text .now)) (freshProgram (lending (length (a .list .now)))))
+      Ran hitsOfProgram (lending (a .setting) (length (a .list .now))) (c .run-text .result .status) (c .run-text .result .program) (lent (a .list .now)) (lent (c .run-text .last .1 .0)) 0
+      (runFrom (limits (lending (a .setting) (length (a .list .now)))) (a .text .now) 0 1 (lines (a .text .now)) (freshProgram (lending (a .setting) (length (a .list .now)))))
   ran = rw (c .before .before .lending .ensures) at (c .run-text .ensures)
 
   -- a list cleared as it was then is as long as it was lent
@@ -46,7 +46,7 @@ returns c =
     let r = s .before .before .before in
     let a = entry r .args in
     answers-refused (length (a .list .now)) (f .ensures .0) (f .ensures .1 ∙ same r)
-    (perform-refused (a .list .now) (r .run-text .last .1 .0) (a .text .now) (length (lines (a .whole .now))) (ran r) (s .status .given .1))
+    (perform-refused (a .setting) (a .list .now) (r .run-text .last .1 .0) (a .text .now) (length (lines (a .whole .now))) (ran r) (s .status .given .1))
 
 returns-2 : tie.Need-returns-2
 returns-2 c =
@@ -57,7 +57,7 @@ returns-2 c =
     let r = run e in
     let a = entry r .args in
     answers-refused (length (a .list .now)) (f .ensures .0) (f .ensures .1 ∙ same r)
-    (perform-open (a .list .now) (r .run-text .last .1 .0) (a .text .now) (length (lines (a .whole .now))) (ran r) (passed e) (sym (e .is-ended .ensures) ∙ not-true (e .is-ended .result) (t .if1 .taken))
+    (perform-open (a .setting) (a .list .now) (r .run-text .last .1 .0) (a .text .now) (length (lines (a .whole .now))) (ran r) (passed e) (sym (e .is-ended .ensures) ∙ not-true (e .is-ended .result) (t .if1 .taken))
     ∙ ap (λ (k : ℕ). refused 7 k) (sym (n .count-lines .ensures)))
 
 -- the hits have places in the list
@@ -66,7 +66,7 @@ fits c =
     let e = c .before .before in
     let r = run e in
     let a = entry r .args in
-    hits-fit (a .list .now) (r .run-text .last .1 .0) (a .text .now) 0 (ran r) (passed e)
+    hits-fit (a .setting) (a .list .now) (r .run-text .last .1 .0) (a .text .now) 0 (ran r) (passed e)
 
 returns-3 : tie.Need-returns-3
 returns-3 c =
@@ -75,7 +75,7 @@ returns-3 c =
     let e = i .before in
     let r = run e in
     let a = entry r .args in
-    perform-hits (a .list .now) (r .run-text .last .1 .0) (a .text .now) (length (lines (a .whole .now))) (ran r) (passed e) (f .clear-from .last .0)
+    perform-hits (a .setting) (a .list .now) (r .run-text .last .1 .0) (a .text .now) (length (lines (a .whole .now))) (ran r) (passed e) (f .clear-from .last .0)
     (sym (e .is-ended .ensures) ∙ not-false (e .is-ended .result) (i .if1 .left)) (r .run-text .kept .1 .0) (f .clear-from .ensures)
 
 pub perform-spec : {M : Type 1} → statement M

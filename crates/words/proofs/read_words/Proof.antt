@@ -145,7 +145,7 @@ returns c =
     let none-here = answer-none (w .at) (word (drop (w .at) t)) (r .read-word .result) (r .read-word .ensures) (c .before .if1 .taken) in
     gathers t (a .from) (w .at) (w .inv .before) (w .inv .goes) none-here _ (w .forms) (w .numbers)
     (ap (ended (c .is-line-end .result) (w .at)) (w .inv .told) ∙ rw (c .is-line-end .ensures))
-    (w .inv .letters)
+    (w .inv .letters) (w .inv .numbers-all)
 
 loop-less : tie.Need-loop-less Inv-loop μ-loop
 loop-less c = less (c .before .before .before)

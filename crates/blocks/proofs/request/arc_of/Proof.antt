@@ -3,7 +3,6 @@ use mathlib.Core.Path.{_≡_}
 use mir.Syntax.{w32}
 use mir.Val.{toZ, ofZ}
 use borrow.Author.Needs.{needs}
-use Rattle.blocks.proofs.Lengths.{length-value}
 use Rattle.blocks.proofs.request.arc_of.Statement.{statement}
 use Rattle.blocks.proofs.request.arc_of.Tie as tie
 
@@ -18,7 +17,7 @@ returns c =
     let j-back : toZ w32 (ofZ w32 (j .result .value)) ≡ j .result .value = search needs in
     let p = c .before .before .before .before .before .word-at3 in
     let p-back : toZ w32 (ofZ w32 (p .result .value)) ≡ p .result .value = search needs in
-    simp (i-back, j-back, p-back) (simp (length-value, i .ensures, j .ensures, p .ensures, c .before .before .before .count .ensures, c .before .before .before .before .word-at4 .ensures))
+    simp (i-back, j-back, p-back) (simp (i .ensures, j .ensures, p .ensures, c .before .before .before .count .ensures, c .before .before .before .before .word-at4 .ensures))
 
 pub arc-of-spec : {M : Type 1} → statement M
 arc-of-spec =

@@ -3,7 +3,6 @@ use native.Mathlib.Omega.{arith}
 use borrow.Author.Needs.{needs}
 use Rattle.aries.specs.Letters.{letterD, letterI, letterJ}
 use Rattle.blocks.proofs.Bounds.{size-small}
-use Rattle.blocks.proofs.Lengths.{length-value}
 use Rattle.blocks.proofs.request.layout_of.Statement.{statement}
 use Rattle.blocks.proofs.request.layout_of.Tie as tie
 
@@ -26,7 +25,7 @@ returns c =
     let d = c .before in
     let j = d .before .before in
     let i = j .before .before in
-    simp (i .before .before .point-of .ensures, i .size-of .ensures, i .before .word-at .ensures, j .size-of2 .ensures, j .before .word-at2 .ensures, d .size-of3 .ensures, d .before .word-at3 .ensures, c .steps-of .ensures, length-value)
+    simp (i .before .before .point-of .ensures, i .size-of .ensures, i .before .word-at .ensures, j .size-of2 .ensures, j .before .word-at2 .ensures, d .size-of3 .ensures, d .before .word-at3 .ensures, c .steps-of .ensures)
 
 pub layout-of-spec : {M : Type 1} → statement M
 layout-of-spec =

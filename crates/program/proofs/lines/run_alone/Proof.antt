@@ -8,12 +8,17 @@ use borrow.Author.Needs.{needs}
 use borrow.Author.Tests.{ltb-true, not-true, not-false}
 use lib.Dec.{ltb}
 use lib.ListN.{length, getD}
+use Rattle.aries.specs.declared.block.Decoded.{Decoded}
 use Rattle.aries.specs.declared.macros.Macros.{Macros}
+use Rattle.aries.specs.declared.reader.Reader.{Reader}
 use Rattle.aries.specs.declared.state.Progress.{Progress}
+use Rattle.aries.specs.Reader.{readerOf}
 use Rattle.aries.specs.Judging.{limits, mostBlocks}
+use Rattle.aries.specs.Setup.{ordinaryFrame}
 use Rattle.aries.specs.Hits.{andThen}
 use Rattle.aries.specs.Text.{lineFeed}
 use Rattle.text.proofs.Lines.{blanks-inside, next-stop, line-inside, line-goes-on}
+use Rattle.decode.specs.Decoding.{decodedAt}
 use Rattle.decode.proofs.Decoding.{decoded-instruction}
 use Rattle.program.specs.Turns.{program, placed, linesFrom}
 use Rattle.program.proofs.Placed.{not-storing}
@@ -90,21 +95,35 @@ module _ (c : tie.Else2) where
   may : let a = entry (skipped block) .args in (not (countedAt (a .text .now) (start (skipped block))) || ltb (a .progress .blocks) mostBlocks) ≡ true
   may = not-false _ (c .if2 .left)
 
+-- it is read as the frame has it
+module _ (d : tie.After-decode) where
+  abbrev before-reading : tie.Else2
+  before-reading = d .before .before .before
+
+  abbrev given : tie.Start
+  given = entry (skipped (block before-reading))
+
+  reads : d .before .reader .result ≡ readerOf (ordinaryFrame (given .args .setup))
+  reads = d .before .reader .ensures ∙ ap readerOf (d .before .before .frame .ensures)
+
+  read : {x : Decoded} → d .decode .result ≡ x → decodedAt (readerOf (ordinaryFrame (given .args .setup))) (given .args .text .now) (start (skipped (block before-reading))) ≡ x
+  read q = ap (λ (r : Reader). decodedAt r (given .args .text .now) (start (skipped (block before-reading)))) (sym reads) ∙ sym (d .decode .ensures) ∙ q
+
 returns-3 : tie.Need-returns-3
 returns-3 c =
     let d = c .before .before .before .before in
-    let e = block (d .before) in
+    let e = block (before-reading d) in
     let b = entry (skipped e) in
     let a = b .args in
     turns-refused (a .text .now) (a .at) (a .line) (a .stage) (a .setup) (a .progress) (c .running2 .ensures)
     (λ m.
     skips (skipped e) m
     ∙ block-refused (limits (a .setup .job)) (a .text .now) (start (skipped e)) (place (skipped e)) (a .stage) (a .setup) m (a .progress) (inside e) (other e) (not-storing (a .stage) (b .pre .1))
-    (may (d .before)) (c .before .before .decoded .given .0 .0) (sym (d .decode .ensures) ∙ c .before .before .decoded .given .1))
+    (may (before-reading d)) (c .before .before .decoded .given .0 .0) (read d (c .before .before .decoded .given .1)))
 
 begun-requires : tie.Need-begun-requires
 begun-requires c κs counts =
-    let d = c .before .before .before .before in
+    let d = before-reading (c .before .before .before) in
     let b = (entry (skipped (block d)) .args .progress .blocks) in
     ltb-true b mostBlocks (rw counts at (may d))
 
@@ -113,13 +132,13 @@ returns-4 c =
     let n = c .before in
     let i = n .before .before .decoded2 .given in
     let d = n .before .before .before .before in
-    let e = block (d .before) in
+    let e = block (before-reading d) in
     let b = entry (skipped e) in
     let a = b .args in
     let t = a .text .now in
     let j = limits (a .setup .job) in
-    let q = sym (d .decode .ensures) ∙ i .1 in
-    let x = decoded-instruction t (start (skipped e)) (i .0 .0) (i .0 .1 .0) q .1 in
+    let q = read d (i .1) in
+    let x = decoded-instruction (readerOf (ordinaryFrame (a .setup))) t (start (skipped e)) (i .0 .0) (i .0 .1 .0) q .1 in
     let p = b .pre .0 in
     let k = line-goes-on t (start (skipped e)) (inside e) (other e) in
     let w = line-inside t (start (skipped e)) (within (skipped e)) in
@@ -128,7 +147,7 @@ returns-4 c =
     (record { further = omega arith; inside = omega arith; numbered = omega arith })
     (λ m.
     skips (skipped e) m
-    ∙ block-begun j t (start (skipped e)) (place (skipped e)) (a .stage) (a .setup) m (a .progress) (inside e) (other e) (not-storing (a .stage) (b .pre .1)) (may (d .before)) (i .0 .0) (i .0 .1 .0) q
+    ∙ block-begun j t (start (skipped e)) (place (skipped e)) (a .stage) (a .setup) m (a .progress) (inside e) (other e) (not-storing (a .stage) (b .pre .1)) (may (before-reading d)) (i .0 .0) (i .0 .1 .0) q
     ∙ ap (λ (g : Progress). andThen (placed j t (i .0 .1 .0) (place (skipped e)) (i .0 .0 .block) (program (a .stage) (a .setup) m g)) (linesFrom j t (i .0 .1 .0) (place (skipped e)))) (sym (n .begun .ensures)))
 
 pub run-alone-spec : {M : Type 1} → statement M
@@ -139,8 +158,8 @@ run-alone-spec =
     returns
     (λ c. search needs) (λ c κs. search needs)
     returns-2
-    (λ c κs. search needs) (λ c. search needs) (λ c κs. search needs) (λ c. search needs)
+    (λ c κs. search needs) (λ c κs. search needs) (λ c κs. search needs) (λ c. search needs) (λ c κs. search needs) (λ c. search needs)
     begun-requires
-    (λ c κs. let b = entry (skipped (block (c .before .before .before .before .before))) in b .pre .1)
+    (λ c κs. let b = entry (skipped (block (before-reading (c .before .before .before .before)))) in b .pre .1)
     returns-3
     returns-4)

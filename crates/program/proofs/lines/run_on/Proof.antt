@@ -27,11 +27,11 @@ module _ (c : tie.After-run-stretch) where
       let a = entry .args in
       Ran hitsMade (a .setup .job) (c .run-stretch .result .outcome .status) (c .run-stretch .result .outcome .progress) (lent (a .list .now)) (lent (c .run-stretch .last .0)) (a .progress .hits)
       (here (a .text .now) (a .at) (a .line) (a .setup) (a .progress) .made)
-  ran = rw (c .before .frame .ensures) at (c .run-stretch .ensures .ran)
+  ran = rw (c .before .before .before .frame .ensures) at (c .run-stretch .ensures .ran)
 
   module _ {x : Stop} (e : c .run-stretch .result .stop ≡ x) where
     stopped : let a = entry .args in x ≡ here (a .text .now) (a .at) (a .line) (a .setup) (a .progress) .stop
-    stopped = sym e ∙ (rw (c .before .frame .ensures) at (c .run-stretch .ensures .stopped))
+    stopped = sym e ∙ (rw (c .before .before .before .frame .ensures) at (c .run-stretch .ensures .stopped))
 
     behind : let a = entry .args in Stops (a .text .now) (a .at) (a .line) x
     behind =
@@ -91,9 +91,9 @@ pub run-on-spec : {M : Type 1} → statement M
 run-on-spec =
     tie.close
     (tie.spec
-    (λ c κs. let p = c .before .pre in omega arith)
     (λ c κs. search needs)
-    (λ c κs. let p = c .before .before .before .before .pre in (omega arith, c .before .before .look-ahead .ensures))
+    (λ c κs. let p = c .before .before .pre in omega arith)
+    (λ c κs. let p = c .before .before .before .before .pre in (omega arith, c .before .look-ahead .ensures))
     (λ c. search needs) (λ c κs. search needs) (λ c. search needs)
     returns
     (λ c. search needs) (λ c. search needs) (λ c κs. search needs) (λ c. search needs) (λ c κs. search needs) (λ c. search needs) (λ c κs. search needs)
