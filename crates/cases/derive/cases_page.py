@@ -19,6 +19,10 @@ def example(name, body, answer, reason):
 
 case('page-units', 'G92 X60000 Y600./X100 Y100. T1/X1.5 Y1.05/G28 I10. J4500 K1/G50', all_of(P(100, 10000, 1), P(150, 105, 1), P(857, 812, 1)),
      'without a point a number counts hundredths')
+case('page-units-at-setting-0', 'G92 X600 Y600/X100 Y100. T1/X1.5 Y1/G28 I10 J45 K2/G29 I20 J0 P90 K2/G36 I9 P2 J9 K1/G50',
+     all_of(P(10000, 10000, 1), P(150, 100, 1), P(857, 807, 1), P(1564, 1514, 1), P(3564, 1514, 1), P(1564, 3514, 1), P(2464, 3514, 1), P(3364, 3514, 1),
+            P(3364, 4414, 1), P(2464, 4414, 1), P(1564, 4414, 1)), 'without a point a length counts millimetres and an angle degrees', setting=0)
+case('page-limit-at-setting-0', 'G92 X600 Y600/G72 X9999 Y-9999/G72 X9999.99 Y0/G72 X0 Y10000/G50', R(6, 4), '6: 10,000 mm are 1,000,000 hundredths', setting=0)
 example('t', 'X20. Y20. T3/X40./G70 X60. T5/Y40./G28 I10. J0 K2 T7/X10. Y10.',
         all_of(P(2000, 2000, 3), P(4000, 2000, 3), P(6000, 4000, 5), P(7000, 4000, 7), P(8000, 4000, 7), P(1000, 1000, 7)),
         'a tool stays chosen; G70 and patterns choose one too')

@@ -6,13 +6,13 @@
 import os
 import sys
 from table import CASES, R, H
-import cases_text, cases_press, cases_limits, cases_manual, cases_page, cases_plates
+import cases_text, cases_press, cases_limits, cases_manual, cases_page, cases_plates, cases_settings
 from expander import expand, printed
 
 bad = 0
 answers = []
-for name, length, text, hand, reason in CASES:
-    number, rest = expand(text, length)
+for name, setting, length, text, hand, reason in CASES:
+    number, rest = expand(text, length, setting)
     answers.append((number, rest))
     if isinstance(hand, R):
         ok = (number, rest) == (hand.number, hand.line)
@@ -28,18 +28,21 @@ for name, length, text, hand, reason in CASES:
                     print('    hit', k, 'hand', h, 'expander', rest[k - 1 if k > 0 else k])
 print(len(CASES), 'cases,', bad, 'differ')
 
-GROUPS = ['plates', 'page', 'tempting', 'text', 'words', 'letters', 'codes', 'two', 'ranges', 'kinds', 'moves', 'origin', 'patterns', 'memory', 'sine', 'macros',
+GROUPS = ['plates', 'page', 'tempting', 'text', 'words', 'letters', 'codes', 'two', 'ranges', 'kinds', 'settings', 'moves', 'origin', 'patterns', 'memory', 'sine', 'macros',
           'layouts', 'lists', 'characters', 'calls', 'blocks', 'reach', 'refusal', 'order', 'decision', 'manual', 'samples']
 HEADS = {
     'plates': 'The plates of document 01', 'page': 'The examples of docs/PUNCH-CODE.md', 'tempting': 'Four readings that tempt', 'text': 'Bytes, lines, spaces', 'words': 'The form of a word (4)',
     'letters': 'The letters of each block (5)', 'codes': 'Codes (5)', 'two': 'Two G words (5)', 'ranges': 'Range ends and one beyond (6, 16)',
-    'kinds': 'Signs and points on whole numbers (6)', 'moves': 'Moving and punching', 'origin': 'The waiting origin', 'patterns': 'Patterns',
+    'kinds': 'Signs and points on whole numbers (6)', 'settings': 'The decimal point setting (6, and what a number means)', 'moves': 'Moving and punching', 'origin': 'The waiting origin', 'patterns': 'Patterns',
     'memory': 'Pattern memory', 'sine': 'Sines', 'macros': 'Macros', 'layouts': 'Layouts', 'lists': 'Lists (17)', 'characters': 'Characters of bodies (12)',
     'calls': 'Open calls (11)', 'blocks': 'Blocks carried out (3)', 'reach': 'Reach (15)', 'refusal': 'Each refusal at the top, in a body, in a first run, in a copy',
     'order': 'Two faults in one block', 'decision': 'Decisions', 'manual': 'Examples of the manuals',
     'samples': 'The sample plates',
 }
 
+
+# arguments that are no setting: no number, past both ends of 32 bits, a digit's neighbours, another sign
+NO_SETTINGS = ['x', '-', '2147483648', '-2147483649', '99999999999999999999', '1x', '-1x', '1:', '1/', '--1', '+1', '1-', '0.']
 
 # arguments that are no length of a list: no number, too long for the longest list, a digit's neighbours
 NO_LENGTHS = ['x', '16385', '99999', '12x', '1:', '1/', '-4']
@@ -50,6 +53,12 @@ golden.sort(key=lambda ca: (GROUPS.index(ca[0][0].split('-')[0]), ca[0][0] if ca
 HOME = os.path.dirname(os.path.abspath(__file__))
 PAIRS = open(os.path.join(HOME, 'pairs.md')).read()
 DECISIONS = open(os.path.join(HOME, 'decisions.md')).read()
+
+
+def called(setting, length):
+    """What of the call is not as usual."""
+    said = (['setting %d' % setting] if setting != 1 else []) + (['list of %d' % length] if length != 16384 else [])
+    return ', '.join(said) + ': ' if said else ''
 
 
 def told(answer):
@@ -78,15 +87,19 @@ def write(folder):
     for f in os.listdir(data):
         os.remove(os.path.join(data, f))
     words, out = [], []
+    first = golden[0][0][0] + '.nc'
+    for setting in NO_SETTINGS:
+        words += [setting, '16384', first]
+        out.append('%s NO SETTING\n' % first)
     for length in NO_LENGTHS:
-        words += [length, golden[0][0][0] + '.nc']
-        out.append('%s.nc NO LENGTH\n' % golden[0][0][0])
-    for (name, length, text, hand, reason), answer in golden:
+        words += ['1', length, first]
+        out.append('%s NO LENGTH\n' % first)
+    for (name, setting, length, text, hand, reason), answer in golden:
         file = name + '.nc'
         with open(os.path.join(data, file), 'wb') as f:
             f.write(text)
-        words += [str(length), file]
-        out.append('%s %d\n%s' % (file, length, printed(answer)))
+        words += [str(setting), str(length), file]
+        out.append('%s %d %d\n%s' % (file, setting, length, printed(answer)))
     with open(os.path.join(folder, 'args'), 'w') as f:
         f.write('\n'.join(words) + '\n')
     with open(os.path.join(folder, 'stdout'), 'w') as f:
@@ -94,7 +107,7 @@ def write(folder):
     with open(os.path.join(folder, 'cases.md'), 'w') as f:
         f.write(intro())
         group = None
-        for (name, length, text, hand, reason), answer in golden:
+        for (name, setting, length, text, hand, reason), answer in golden:
             g = name.split('-')[0]
             if g != group:
                 group = g
@@ -104,26 +117,28 @@ def write(folder):
                 if g == 'decision':
                     f.write(DECISIONS)
                 f.write('| case | program | answer | why |\n|---|---|---|---|\n')
-            f.write('| %s | %s | %s%s | %s |\n' % (name, shown(text), '' if length == 16384 else 'list of %d: ' % length, told(answer), reason))
-    print('written: %d files, %d bytes of data, %d of stdout' % (len(golden), sum(len(c[2]) for c, a in golden), sum(len(o) for o in out)))
+            f.write('| %s | %s | %s%s | %s |\n' % (name, shown(text), called(setting, length), told(answer), reason))
+    print('written: %d files, %d bytes of data, %d of stdout' % (len(golden), sum(len(c[3]) for c, a in golden), sum(len(o) for o in out)))
 
 
 def intro():
     return '''# The golden cases
 
-A case is a program text in `data/` with a list length. `args` has, for each case, the length and the file's name;
-`stdout` has the name, the length and the answer as hitlist prints it. First come arguments that are no length. A name says what its case tests, so that the first
-line that differs explains itself. The answers were worked out from the rules and not taken from the program.
+A case is a program text in `data/` with a decimal point setting and a list length. `args` has, for each case, the
+setting, the length and the file's name; `stdout` has the name, the setting, the length and the answer as hitlist prints
+it. First come arguments that are no setting or no length. A name says what its case tests, so that the first line that
+differs explains itself. The answers were worked out from the rules and not taken from the program.
 
 The table of cases is in `derive/`, each with what was worked out by hand: a refusal's number and line, or the count of
 hits and some of them. Beside it is an expander of its own, written from the rules alone, which gives all hits.
 `derive/check.py` compares the two, and `derive/check.py .` writes all files anew.
 
 In the tables a slash stands for a line feed; a long text, or one with other bytes, is in its file. Lines count from 1,
-blank ones too. The list has 16,384 numbers, so places for 4,096 hits, unless another length is given. An answer is a
-refusal's number and line, or the hits: X, Y, tool, mode. In the last column a number before a colon is that refusal's;
-000, 001 and 002 are the manuals. Document 01 is the specification; its rules are in docs/PUNCH-CODE.md, where the cases
-named page-.. are worked out step by step.
+blank ones too. The setting is 1 and the list has 16,384 numbers, so places for 4,096 hits, unless something else stands
+before the answer. An answer is a refusal's number and line, or the hits: X, Y, tool, mode. In the last column a number
+before a colon is that refusal's; 000, 001 and 002 are the manuals. Document 01 is the specification, to which document 02
+adds the decimal point setting; the rules are in docs/PUNCH-CODE.md, where the cases named page-.. are worked out step by
+step.
 '''
 
 

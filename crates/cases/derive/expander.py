@@ -1,7 +1,7 @@
-"""An expander of ARIES punch code, written from document 01 alone.
+"""An expander of ARIES punch code, written from document 01, and from document 02 for the decimal point setting.
 
-expand(text, length) answers (0, hits) or (number, line). Whole numbers throughout; the sine tables come from
-fractions. Slow and plain on purpose: it is read beside the document.
+expand(text, length, setting) answers (0, hits) or (number, line). Whole numbers throughout; the sine tables come from
+fractions. Slow and plain on purpose: it is read beside the documents.
 """
 import re
 from fractions import Fraction
@@ -103,14 +103,18 @@ def words_of(line, number):
 
 PATTERNS = {26: 'IJK', 28: 'IJK', 29: 'IJPK', 36: 'IPJK', 37: 'IPJK'}
 CODES = {0, 1, 8, 9, 12, 13}
+FAR = 999999
+
+# the letters that are lengths or angles, by code; None is a position
+LENGTHS = {26: 'IJ', 28: 'IJ', 29: 'IJP', 36: 'IJ', 37: 'IJ', 70: 'XY', 72: 'XY', 92: 'XY', 93: 'XY', 98: 'XYIJD', None: 'XY'}
 
 
 class Block:
     pass
 
 
-def block_of(words, number):
-    """Rules 5 and 6: which block it is, and whether its numbers fit."""
+def block_of(words, number, setting):
+    """Rules 5 and 6: which block it is, and whether its numbers fit. Its lengths and angles are in hundredths then."""
 
     def unlisted():
         raise Refused(5, number)
@@ -203,7 +207,14 @@ def block_of(words, number):
             kind = 'G'
     b.kind = kind
 
-    # 6
+    # 6; at setting 0 a length or an angle without a point counts whole millimetres or degrees
+    if setting == 0:
+        for w in (b.words[l] for l in LENGTHS.get(b.code, '') if l in b.words):
+            if not w.point:
+                w.size, w.value = 100 * w.size, 100 * w.value
+            if w.size > FAR:
+                unfit()
+
     def whole(letter, low, high):
         w = b.words.get(letter)
         if w is not None and not (w.plain and low <= w.value <= high):
@@ -239,7 +250,6 @@ def block_of(words, number):
 
 # ---------------------------------------------------------------- the press
 
-FAR = 999999
 MACHINES = {(60000, 60000): 61020, (100000, 60000): 101020}
 
 
@@ -263,9 +273,10 @@ class State:
 
 
 class Expander:
-    def __init__(self, text, length):
+    def __init__(self, text, length, setting):
         self.text = text
         self.places = length // 4
+        self.setting = setting
 
     def run(self):
         try:
@@ -314,7 +325,7 @@ class Expander:
                 raise Refused(3, number)
             self.blocks += 1
         if i not in self.parsed:
-            self.parsed[i] = block_of(words_of(line, number), number)
+            self.parsed[i] = block_of(words_of(line, number), number, self.setting)
         return self.parsed[i]
 
     def top_block(self, i):
@@ -546,8 +557,9 @@ def offsets(code, i, j, p, k):
                     yield c * i, r * j
 
 
-def expand(text, length):
-    return Expander(text, length).run()
+def expand(text, length, setting=1):
+    """At setting 0, or at setting 1, for which any other number stands."""
+    return Expander(text, length, setting).run()
 
 
 def printed(answer):

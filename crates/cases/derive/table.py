@@ -32,14 +32,14 @@ def p(body, head=A222):
     return head + '/' + (body + '/' if body else '') + 'G50'
 
 
-def case(name, text, answer, reason, length=16384):
-    """text: bytes as they are, or lines parted by a slash, each ending in a line feed."""
+def case(name, text, answer, reason, length=16384, setting=1):
+    """text: bytes as they are, or lines parted by a slash, each ending in a line feed. setting: the number that the caller states."""
     assert name not in NAMES, name
     assert name == name.lower() and ' ' not in name, name
     NAMES.add(name)
     if isinstance(text, str):
         text = (text.replace('/', '\n') + '\n').encode('ascii')
-    CASES.append((name, length, text, answer, reason))
+    CASES.append((name, setting, length, text, answer, reason))
 
 
 def spent(n, extra=()):

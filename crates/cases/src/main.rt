@@ -1,5 +1,6 @@
-// Runs the golden cases. The arguments are pairs: the length of the lent list in numbers, and the name of a file. For each
-// pair the program prints the name and the length, and then the listing or the refusal, as hitlist prints it.
+// Runs the golden cases. The arguments are triples: the decimal point setting, the length of the lent list in numbers, and
+// the name of a file. For each triple the program prints the name, the setting and the length, and then the listing or the
+// refusal, as hitlist prints it.
 use aries::answer::Answer;
 use libc::STDOUT_FILENO;
 ghost use Prim.Native.Nat.{suc, _*_, _≤_, _<_};
@@ -12,8 +13,19 @@ const MOST_READ: usize = 60_001;
 // The numbers of the longest list, which has places for 4,096 hits.
 const NUMBERS: usize = 16_384;
 
-// Stands for an argument that is no length of a list.
-const NO_LENGTH: usize = 16_385;
+// The least setting, and its size, one more than that of the greatest.
+const LEAST: i32 = -2_147_483_648;
+
+const MOST: usize = 2_147_483_648;
+
+// Stands for what writes no number, or one above the most.
+const NO_NUMBER: usize = 2_147_483_649;
+
+// What an argument states as the setting.
+enum Stated {
+    Setting(i32),
+    Nothing,
+}
 
 // Prints a listing, or a refusal, through a buffer.
 fn print_through(out: &mut [u8], list: &[i32], answer: Answer)
@@ -31,30 +43,30 @@ fn print_listing(list: &[i32], answer: Answer)
     print_through(&mut out, list, answer);
 }
 
-// Expands a text into a list and prints the answer.
-fn run(text: &[u8], list: &mut [i32])
+// Expands a text at a setting into a list and prints the answer.
+fn run(setting: i32, text: &[u8], list: &mut [i32])
     requires { ⌜ length (now list) ≤ 16384 ⌝ }
 {
-    let answer = tolkjirp::expand(text, list);
+    let answer = tolkjirp::expand(setting, text, list);
     print_listing(list, answer);
 }
 
 // Expands a text into the first so many numbers of a list.
-fn run_within(text: &[u8], list: &mut [i32], numbers: usize)
+fn run_within(setting: i32, text: &[u8], list: &mut [i32], numbers: usize)
     requires { ⌜ numbers ≤ length (now list) ⌝ }
     requires { ⌜ length (now list) ≤ 16384 ⌝ }
 {
-    run(text, &mut list[..numbers]);
+    run(setting, text, &mut list[..numbers]);
 }
 
-// Runs the text of an open file, with a list of so many numbers.
-fn run_text(fd: i32, numbers: usize)
+// Runs the text of an open file at a setting, with a list of so many numbers.
+fn run_text(fd: i32, setting: i32, numbers: usize)
     requires { ⌜ numbers ≤ 16384 ⌝ }
 {
     let mut text = [0u8; MOST_READ];
     let n = io::read_full(fd, &mut text);
     let mut list = [0i32; NUMBERS];
-    run_within(&text[..n], &mut list, numbers);
+    run_within(setting, &text[..n], &mut list, numbers);
 }
 
 // The value of a digit; of any other byte, 10.
@@ -70,23 +82,21 @@ fn digit(byte: u8) -> usize
     }
 }
 
-// One byte more of a number. With what is no digit, or above the longest list, it is no length, and stays so.
+// One byte more of a number. With what is no digit, or above the most, it is no number, and stays so.
 fn with_digit(number: usize, byte: u8) -> usize
-    requires { ⌜ number ≤ 16385 ⌝ }
-    ensures { λ r. ⌜ r ≤ 16385 ⌝ }
+    requires { ⌜ number ≤ 2147483649 ⌝ }
+    ensures { λ r. ⌜ r ≤ 2147483649 ⌝ }
 {
     let value = digit(byte);
     if 9 < value {
-        return NO_LENGTH;
+        return NO_NUMBER;
     }
     let longer = 10 * number + value;
-    if NUMBERS < longer { NO_LENGTH } else { longer }
+    if MOST < longer { NO_NUMBER } else { longer }
 }
 
-// The number that digits write, or no length.
-fn number(digits: &[u8]) -> usize
-    ensures { λ r. ⌜ r ≤ 16385 ⌝ }
-{
+// The number that digits write, 0 where there are none, or no number.
+fn value_of(digits: &[u8]) -> usize {
     let mut value = 0;
     let mut i = 0;
     while i < digits.len() {
@@ -96,20 +106,64 @@ fn number(digits: &[u8]) -> usize
     value
 }
 
-// The list length that argument i writes, or no length.
-fn length_argument(i: usize) -> usize
-    ensures { λ r. ⌜ r ≤ 16385 ⌝ }
-{
+// The number that one or more digits write, or no number.
+fn number(digits: &[u8]) -> usize {
+    if digits.len() == 0 {
+        NO_NUMBER
+    } else {
+        value_of(digits)
+    }
+}
+
+// The list length that argument i writes; what is no number is longer than the longest list.
+fn length_argument(i: usize) -> usize {
     let mut digits = io::buffer();
     let n = os::arg(i, &mut digits);
-    if n == 0 {
-        return NO_LENGTH;
-    }
     number(&digits[..n])
 }
 
-// Runs the text of the file with a name, with a list of so many numbers.
-fn run_named(name: &[u8], numbers: usize)
+// A setting of a size, with a minus or without.
+fn setting_with(minus: bool, size: usize) -> Stated {
+    if size < MOST {
+        return Stated::Setting(signed::with_sign(minus, size as u32));
+    }
+    if minus & (size == MOST) {
+        return Stated::Setting(LEAST);
+    }
+    Stated::Nothing
+}
+
+// The setting that a word writes, in digits with a minus before them or without.
+fn setting_of(word: &[u8]) -> Stated {
+    if word.len() == 0 {
+        return Stated::Nothing;
+    }
+    if word[0] == b'-' {
+        setting_with(true, number(&word[1..]))
+    } else {
+        setting_with(false, number(word))
+    }
+}
+
+// The setting that argument i states.
+fn setting_argument(i: usize) -> Stated {
+    let mut word = io::buffer();
+    let n = os::arg(i, &mut word);
+    setting_of(&word[..n])
+}
+
+// Prints a space and a setting.
+fn print_setting(setting: i32) {
+    if signed::is_negative(setting) {
+        io::write_all(STDOUT_FILENO, b" -");
+    } else {
+        io::write_all(STDOUT_FILENO, b" ");
+    }
+    io::print_decimal(STDOUT_FILENO, signed::size(setting) as u64);
+}
+
+// Runs the text of the file with a name at a setting, with a list of so many numbers.
+fn run_named(name: &[u8], setting: i32, numbers: usize)
     requires { ⌜ numbers ≤ 16384 ⌝ }
 {
     let fd = os::open_read(name);
@@ -117,31 +171,46 @@ fn run_named(name: &[u8], numbers: usize)
         io::write_all(STDOUT_FILENO, b"MISSING\n");
         return;
     }
-    run_text(fd, numbers);
+    run_text(fd, setting, numbers);
     libc::close(fd);
 }
 
-// Runs the file that argument `name` names, with a list of so many numbers, unless that is no length.
-fn run_case(name: usize, numbers: usize) {
+// Prints a setting and a length, and runs the file with a name, unless the length is none.
+fn run_at(name: &[u8], setting: i32, numbers: usize) {
+    if NUMBERS < numbers {
+        io::write_all(STDOUT_FILENO, b" NO LENGTH\n");
+        return;
+    }
+    print_setting(setting);
+    io::write_all(STDOUT_FILENO, b" ");
+    io::print_decimal(STDOUT_FILENO, numbers as u64);
+    io::write_all(STDOUT_FILENO, b"\n");
+    run_named(name, setting, numbers);
+}
+
+// Runs the file that argument `name` names, unless no setting is stated.
+fn run_case(name: usize, stated: Stated, numbers: usize) {
     let mut path = io::buffer();
     let n = os::arg(name, &mut path);
     io::write_all(STDOUT_FILENO, &path[..n]);
-    io::write_all(STDOUT_FILENO, b" ");
-    if NUMBERS < numbers {
-        io::write_all(STDOUT_FILENO, b"NO LENGTH\n");
-        return;
+    match stated {
+        Stated::Setting(setting) => run_at(&path[..n], setting, numbers),
+        Stated::Nothing => {
+            io::write_all(STDOUT_FILENO, b" NO SETTING\n");
+        }
     }
-    io::print_decimal(STDOUT_FILENO, numbers as u64);
-    io::write_all(STDOUT_FILENO, b"\n");
-    run_named(&path[..n], numbers);
 }
 
-// Argument 0 is the program itself; the pairs follow.
+// Argument 0 is the program itself; the triples follow.
 fn main() {
-    let pairs = os::arg_count() / 2;
+    let triples = os::arg_count() / 3;
     let mut i = 0;
-    while i < pairs {
-        run_case(2 * i + 2, length_argument(2 * i + 1));
+    while i < triples {
+        run_case(
+            3 * i + 3,
+            setting_argument(3 * i + 1),
+            length_argument(3 * i + 2),
+        );
         i += 1;
     }
 }

@@ -1,4 +1,4 @@
--- The measure: the pairs that are left. Assumes nothing.
+-- The measure: the triples that are left. Assumes nothing.
 use Prim.Native.Nat.{_-_}
 use native.Mathlib.Omega.{arith}
 use borrow.Author.Needs.{needs}
@@ -6,10 +6,10 @@ use Rattle.cases.proofs.main.Statement.{statement}
 use Rattle.cases.proofs.main.Tie as tie
 
 abbrev Inv-loop : tie.InvT-loop
-Inv-loop pairs i₀ i = Unit {0}
+Inv-loop triples i₀ i = Unit {0}
 
 abbrev μ-loop : tie.MeasureT-loop
-μ-loop pairs i₀ i = pairs - i
+μ-loop triples i₀ i = triples - i
 
 arg-count-requires : tie.Need-arg-count-requires Inv-loop μ-loop
 arg-count-requires c κs = search needs
@@ -22,6 +22,15 @@ mul-run-case c = search needs
 
 add-run-case : tie.Need-add-run-case Inv-loop μ-loop
 add-run-case c = search needs
+
+mul-setting-argument : tie.Need-mul-setting-argument Inv-loop μ-loop
+mul-setting-argument c = search needs
+
+add-setting-argument : tie.Need-add-setting-argument Inv-loop μ-loop
+add-setting-argument c = search needs
+
+setting-argument-requires : tie.Need-setting-argument-requires Inv-loop μ-loop
+setting-argument-requires c κs = search needs
 
 mul-length-argument : tie.Need-mul-length-argument Inv-loop μ-loop
 mul-length-argument c = search needs
@@ -57,6 +66,9 @@ main-spec =
     loop-holds
     mul-run-case
     add-run-case
+    mul-setting-argument
+    add-setting-argument
+    setting-argument-requires
     mul-length-argument
     add-length-argument
     length-argument-requires

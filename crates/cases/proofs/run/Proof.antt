@@ -11,7 +11,7 @@ expand-requires c κs = search needs
 print-listing-requires : tie.Need-print-listing-requires
 print-listing-requires c κs =
     let x = c .before .before .expand in
-    omega (arith, count-within (x .result) (x .last .1 .0) _ _ (x .ensures) (search needs))
+    omega (arith, count-within (x .result) (x .last .1 .1 .0) _ _ (x .ensures) (search needs))
 
 same-length : tie.Need-same-length
 same-length c = search needs

@@ -1,13 +1,13 @@
--- The invariant: what the bytes so far write is a length or none. Assumes nothing.
+-- The invariant: what the bytes so far write is a number or none. Assumes nothing.
 use Prim.Native.Nat.{_-_, _≤_}
 use native.Mathlib.Omega.{arith}
 use borrow.Author.Needs.{needs}
 use lib.ListN.{length}
-use Rattle.cases.proofs.number.Statement.{statement}
-use Rattle.cases.proofs.number.Tie as tie
+use Rattle.cases.proofs.value_of.Statement.{statement}
+use Rattle.cases.proofs.value_of.Tie as tie
 
 abbrev Inv-loop : tie.InvT-loop
-Inv-loop digits value₀ i₀ value i = value ≤ 16385
+Inv-loop digits value₀ i₀ value i = value ≤ 2147483649
 
 abbrev μ-loop : tie.MeasureT-loop
 μ-loop digits value₀ i₀ value i = length digits - i
@@ -33,8 +33,8 @@ loop-again c = search needs
 returns : tie.Need-returns Inv-loop μ-loop
 returns c = search needs
 
-pub number-spec : {M : Type 1} → statement M
-number-spec =
+pub value-of-spec : {M : Type 1} → statement M
+value-of-spec =
     tie.close
     (tie.spec
     Inv-loop
