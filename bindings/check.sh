@@ -37,11 +37,20 @@ done
 printf 'G92X600.Y600.\nX-11.T1\nG50\n' >"$out/refused.nc"
 ends 1 target/example "$out/refused.nc"
 grep -q '^REFUSED 16 LINE 2$' "$out/printed" || fail "a refusal"
-for words in no-such-file plates --help -x; do
+printf 'G92X600Y600\nX100Y100T2\nG50\n' >"$out/millimetres.nc"
+ends 0 target/example -0
+ends 0 target/example -0 "$out/millimetres.nc"
+grep -q '^1 10000 10000 2 P$' "$out/printed" || fail "a text in whole millimetres"
+target/example -0 - <"$out/millimetres.nc" | cmp -s "$out/printed" - || fail "setting 0 from standard input"
+ends 1 target/example "$out/millimetres.nc"
+grep -q '^REFUSED 8 LINE 1$' "$out/printed" || fail "a text in whole millimetres at setting 1"
+for words in no-such-file plates --help -x -1; do
     ends 2 target/example "$words"
     [ -s "$out/said" ] && [ ! -s "$out/printed" ] || fail "target/example $words says nothing, or prints"
 done
 ends 2 target/example one two
+ends 2 target/example -0 one two
+ends 2 target/example -0 -0
 ends 2 sh -c 'target/example >/dev/full'
 ends 2 sh -c 'target/example - <&-'
 echo "C and C++: as documented"
@@ -51,8 +60,15 @@ cd bindings/rust || exit 1
 ends 0 cargo test --offline
 ends 0 cargo run --offline --example plate
 ends 0 cargo run --offline --example plate -- ../../plates/tip-rack.nc
+ends 0 cargo run --offline --example plate -- -0 ../../plates/tip-rack.nc
+ends 0 cargo run --offline --example plate -- -0 "$out/millimetres.nc"
+ends 1 cargo run --offline --example plate -- "$out/millimetres.nc"
 ends 1 cargo run --offline --example plate -- "$out/refused.nc"
 ends 1 cargo run --offline --example plate -- no-such-file
+ends 0 cargo run --offline -p plain --example hits -- ../../plates/tip-rack.nc
+ends 0 cargo run --offline -p plain --example hits -- -0 "$out/millimetres.nc"
+ends 1 cargo run --offline -p plain --example hits -- "$out/millimetres.nc"
+ends 2 cargo run --offline -p plain --example hits
 ends 0 cargo run --offline --release --bin compare -- 10000 1
 ends 2 cargo run --offline --release --bin compare -- 0
 ends 2 cargo run --offline --release --bin compare -- 2 18446744073709551615

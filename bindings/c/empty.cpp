@@ -18,7 +18,8 @@ static void expect(const char *what, const std::vector<uint8_t> &text,
     const uint64_t expected[3] = {refusal, count, line};
     uint64_t answer[3] = {99, 99, 99};
 
-    tolkjirp_expand(text.data(), text.size(), list.data(), list.size(), answer);
+    tolkjirp_expand(TOLKJIRP_HUNDREDTHS, text.data(), text.size(), list.data(),
+                    list.size(), answer);
     if (std::memcmp(answer, expected, sizeof answer) != 0) {
         std::printf("%s: %s\n", what, tolkjirp_refusal_text(answer[0]));
         is_wrong = true;

@@ -5,6 +5,13 @@
  *     example FILE    the program text in a file
  *     example -       the program text on standard input
  *
+ * The decimal point setting is 1, as that of hitlist. With -0 in front,
+ *
+ *     example -0 FILE
+ *
+ * it is 0: a length or an angle without a point counts whole millimetres or
+ * degrees.
+ *
  * It ends with 0 if the text is accepted, with 1 if it is refused, and with 2
  * if it can't be read or the hits can't be written. README.md has the commands
  * that build it.
@@ -56,11 +63,11 @@ static void print_refusal(uint64_t refusal, uint64_t line)
 }
 
 /* Expands the first bytes of the text and prints the answer. */
-static enum status expand(size_t length)
+static enum status expand(int32_t setting, size_t length)
 {
     uint64_t answer[3];
 
-    tolkjirp_expand(text, length, list, LIST_LENGTH, answer);
+    tolkjirp_expand(setting, text, length, list, LIST_LENGTH, answer);
     if (answer[TOLKJIRP_REFUSAL] == TOLKJIRP_ACCEPTED)
         print_hits(answer[TOLKJIRP_COUNT]);
     else
@@ -72,38 +79,45 @@ static enum status expand(size_t length)
 }
 
 /* Expands what a file has. */
-static enum status expand_file(FILE *file, const char *name)
+static enum status expand_file(int32_t setting, FILE *file, const char *name)
 {
     size_t length = fread(text, 1, sizeof text, file);
 
     if (ferror(file))
         return fail(name);
-    return expand(length);
+    return expand(setting, length);
 }
 
 /* Expands what the file of a name has. */
-static enum status expand_named(const char *name)
+static enum status expand_named(int32_t setting, const char *name)
 {
     FILE *file = fopen(name, "rb");
     enum status status;
 
     if (file == NULL)
         return fail(name);
-    status = expand_file(file, name);
+    status = expand_file(setting, file, name);
     fclose(file);
     return status;
 }
 
 int main(int argc, char **argv)
 {
-    if (argc == 1) {
-        memcpy(text, plate, sizeof plate - 1);
-        return expand(sizeof plate - 1);
+    int32_t setting = TOLKJIRP_HUNDREDTHS;
+    int next = 1;
+
+    if (argc > 1 && strcmp(argv[1], "-0") == 0) {
+        setting = TOLKJIRP_MILLIMETRES;
+        next = 2;
     }
-    if (argc == 2 && strcmp(argv[1], "-") == 0)
-        return expand_file(stdin, "standard input");
-    if (argc == 2 && argv[1][0] != '-')
-        return expand_named(argv[1]);
-    fprintf(stderr, "usage: example [FILE]   (- for standard input)\n");
+    if (argc == next) {
+        memcpy(text, plate, sizeof plate - 1);
+        return expand(setting, sizeof plate - 1);
+    }
+    if (argc == next + 1 && strcmp(argv[next], "-") == 0)
+        return expand_file(setting, stdin, "standard input");
+    if (argc == next + 1 && argv[next][0] != '-')
+        return expand_named(setting, argv[next]);
+    fprintf(stderr, "usage: example [-0] [FILE]   (- for standard input)\n");
     return HAS_FAILED;
 }

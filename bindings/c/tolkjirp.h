@@ -16,10 +16,19 @@ extern "C" {
 #endif
 
 /* The version of this header and of the library that it comes with. */
-#define TOLKJIRP_VERSION "0.2.0"
+#define TOLKJIRP_VERSION "0.3.0"
 
 /* The most bytes that a text may have; a longer one is refused. */
 #define TOLKJIRP_LONGEST_TEXT 60000
+
+/*
+ * The decimal point settings: what a length or an angle written without a point
+ * counts. One with a point is the same at both.
+ */
+enum tolkjirp_setting {
+    TOLKJIRP_MILLIMETRES = 0, /* whole millimetres or degrees: X100 is 100 mm */
+    TOLKJIRP_HUNDREDTHS = 1   /* hundredths of them: X100 is 1 mm */
+};
 
 /* How many numbers of the list a hit takes: X, Y, tool, mode. */
 #define TOLKJIRP_NUMBERS_PER_HIT 4
@@ -104,6 +113,10 @@ static inline const char *tolkjirp_refusal_text(uint64_t refusal)
 /*
  * Expands a program text into a list of hits.
  *
+ * setting              The decimal point setting of the whole text, as named
+ *                      above: 0; any other number counts as 1.
+ *                      At 0 a length or an angle that passes 9,999.99 mm or
+ *                      degrees is refused by TOLKJIRP_NUMBER_RANGE.
  * text, text_length    The program, in bytes. It needs no zero byte at its end,
  *                      and any bytes may stand in it.
  * list, list_length    The list, in numbers. Each hit takes four of them: X and
@@ -134,7 +147,8 @@ static inline const char *tolkjirp_refusal_text(uint64_t refusal)
  * whatever the text; that is measured and not proved, so a thread of its own
  * should have 128 kB or more.
  */
-void tolkjirp_expand(const uint8_t *text, size_t text_length,
+void tolkjirp_expand(int32_t setting,
+                     const uint8_t *text, size_t text_length,
                      int32_t *list, size_t list_length,
                      uint64_t answer[3]);
 

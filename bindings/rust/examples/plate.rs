@@ -1,11 +1,13 @@
 //! Expands a plate and prints its hits: that of a file, or a tip rack of eight by twelve holes, twice on the sheet.
+//!
+//! `plate [FILE]` goes by decimal point setting 1, `plate -0 [FILE]` by setting 0, at which X100 is 100 mm.
 
 use std::error::Error;
 use std::io::{self, BufWriter, Write};
 use std::process::ExitCode;
 use std::{env, fs};
 
-use tolkjirp::{expand, Hit};
+use tolkjirp::{expand, Hit, Setting};
 
 const PLATE: &str = "\
 G92 X600. Y600.
@@ -29,13 +31,17 @@ fn main() -> ExitCode {
 }
 
 fn run() -> Result<(), Box<dyn Error>> {
-    let mut words = env::args_os().skip(1);
-    let text = match (words.next(), words.next()) {
-        (None, _) => PLATE.as_bytes().to_vec(),
-        (Some(name), None) => fs::read(name)?,
-        _ => return Err("usage: plate [FILE]".into()),
+    let words: Vec<_> = env::args_os().skip(1).collect();
+    let (setting, names) = match &words[..] {
+        [option, names @ ..] if option == "-0" => (Setting::Millimetres, names),
+        names => (Setting::Hundredths, names),
     };
-    print_hits(&expand(&text, 4096)?)?;
+    let text = match names {
+        [] => PLATE.as_bytes().to_vec(),
+        [name] => fs::read(name)?,
+        _ => return Err("usage: plate [-0] [FILE]".into()),
+    };
+    print_hits(&expand(setting, &text, 4096)?)?;
     Ok(())
 }
 

@@ -17,7 +17,8 @@ pub enum Refusal {
     WordForm = 4,
     /// A code is unknown, or the words don't make a block.
     UnknownBlock = 5,
-    /// A number is of the wrong kind or out of its range.
+    /// A number is of the wrong kind or out of its range; at setting 0 also a length or an angle that passes 9,999.99 mm
+    /// or degrees.
     NumberRange = 6,
     /// A block stands in a wrong place, or G92 or G50 is missing.
     WrongPlace = 7,

@@ -1,3 +1,4 @@
+use super::Setting::{Hundredths, Millimetres};
 use super::*;
 
 /// A program for the ARIES-222 with the given blocks between G92 and G50.
@@ -7,7 +8,7 @@ fn program(blocks: &str) -> Vec<u8> {
 
 /// The refusal of a text, with places for so many hits.
 fn refused(text: &[u8], places: usize) -> Refused {
-    match expand(text, places) {
+    match expand(Hundredths, text, places) {
         Err(Failure::Refused(refused)) => refused,
         answer => panic!("{answer:?}"),
     }
@@ -40,7 +41,7 @@ fn refusals_are_told_apart_in_words() {
 
 #[test]
 fn a_rack_of_eight_by_twelve_has_96_hits() {
-    let hits = expand(&program("X50. Y50. T2\nG36 I9. P11 J9. K7"), 4096).unwrap();
+    let hits = expand(Hundredths, &program("X50. Y50. T2\nG36 I9. P11 J9. K7"), 4096).unwrap();
     assert_eq!(hits.len(), 96);
     assert_eq!((hits[1].x, hits[1].y), (5900, 5000));
     assert_eq!((hits[95].x, hits[95].y), (5000, 11300));
@@ -50,7 +51,7 @@ fn a_rack_of_eight_by_twelve_has_96_hits() {
 fn copies_follow_the_layout() {
     let layout = "G98 X20. Y100. I250. J150. P1 K1\nU1\nX10. Y10. T2\nV1\n";
     let places = |run: &str| -> Vec<_> {
-        let hits = expand(&program(&format!("{layout}{run}")), 4).unwrap();
+        let hits = expand(Hundredths, &program(&format!("{layout}{run}")), 4).unwrap();
         hits.iter().map(|hit| (hit.x, hit.y)).collect()
     };
     assert_eq!(
@@ -65,9 +66,42 @@ fn copies_follow_the_layout() {
 
 #[test]
 fn modes_and_tools_are_given() {
-    let hits = expand(&program("X10. T7\nM12\nX20.\nM13\nX30. T99"), 3).unwrap();
+    let hits = expand(Hundredths, &program("X10. T7\nM12\nX20.\nM13\nX30. T99"), 3).unwrap();
     let given: Vec<_> = hits.iter().map(Hit::to_string).collect();
     assert_eq!(given, ["1000 60000 7 P", "2000 60000 7 N", "3000 60000 99 P"]);
+}
+
+#[test]
+fn lengths_and_angles_without_a_point_go_by_the_setting() {
+    let text = program("X100 Y2.5 T7\nG28 I5 J90 K1");
+    let places = |setting| -> Vec<_> {
+        let hits = expand(setting, &text, 2).unwrap();
+        hits.iter().map(|hit| (hit.x, hit.y, hit.tool)).collect()
+    };
+    // the sine of 0.90 degrees is 0.0157, and five hundredths times that are rounded to nothing
+    assert_eq!(places(Hundredths), [(100, 250, 7), (105, 250, 7)]);
+    assert_eq!(places(Millimetres), [(10_000, 250, 7), (10_000, 750, 7)]);
+}
+
+#[test]
+fn a_rack_in_whole_millimetres_is_the_same_rack() {
+    let with_points = "G92 X600. Y600.\nX50. Y50. T2\nG36 I9. P11 J9. K7\nG50\n";
+    let without = with_points.replace('.', "");
+    let hits = expand(Hundredths, with_points.as_bytes(), 96).unwrap();
+    assert_eq!(expand(Millimetres, with_points.as_bytes(), 96).unwrap(), hits);
+    assert_eq!(expand(Millimetres, without.as_bytes(), 96).unwrap(), hits);
+}
+
+#[test]
+fn lengths_past_the_limit_are_refused_at_setting_0() {
+    let answer = |blocks| expand_into(Millimetres, &program(blocks), &mut []).map(|hits| hits.len());
+    assert_eq!(answer("G72 X9999 Y-009999"), Ok(0));
+    let refused = Refused {
+        refusal: Refusal::NumberRange,
+        line: 2,
+    };
+    assert_eq!(answer("G72 X10000"), Err(refused));
+    assert_eq!(answer("G28 I1 J-10000 K1"), Err(refused));
 }
 
 #[test]
@@ -93,25 +127,30 @@ fn a_text_of_wrong_length_has_no_line() {
 
 #[test]
 fn empty_lists_are_allowed() {
-    assert_eq!(expand_into(&program(""), &mut []).unwrap().len(), 0);
-    let refused = expand_into(&program("X1. T2"), &mut []).unwrap_err();
+    assert_eq!(expand_into(Hundredths, &program(""), &mut []).unwrap().len(), 0);
+    let refused = expand_into(Hundredths, &program("X1. T2"), &mut []).unwrap_err();
     assert_eq!(refused.refusal, Refusal::ListFull);
 }
 
 #[test]
 fn the_rest_of_the_list_is_zero() {
     let mut list = [-1; 11];
-    assert_eq!(expand_into(&program("X1. Y2. T3"), &mut list).unwrap().len(), 1);
+    assert_eq!(
+        expand_into(Hundredths, &program("X1. Y2. T3"), &mut list)
+            .unwrap()
+            .len(),
+        1
+    );
     assert_eq!(list, [100, 200, 3, 0, 0, 0, 0, 0, 0, 0, 0]);
     let mut list = [-1; 7];
-    assert!(expand_into(&program("X1. Y2. T3\nX2."), &mut list).is_err());
+    assert!(expand_into(Hundredths, &program("X1. Y2. T3\nX2."), &mut list).is_err());
     assert_eq!(list, [0; 7]);
 }
 
 #[test]
 fn hits_are_read_from_the_list() {
     let mut list = [-1; 14];
-    let hits = expand_into(&program("X1. Y2. T3\nM12\nX4."), &mut list).unwrap();
+    let hits = expand_into(Hundredths, &program("X1. Y2. T3\nM12\nX4."), &mut list).unwrap();
     assert_eq!(hits.len(), 2);
     let first = Hit {
         x: 100,
@@ -131,7 +170,7 @@ fn hits_are_read_from_the_list() {
 #[test]
 fn a_list_that_no_memory_holds_is_an_error() {
     for places in [usize::MAX, usize::MAX / 4, isize::MAX as usize / 16, 1 << 44] {
-        assert_eq!(expand(&program(""), places), Err(Failure::NoMemory));
+        assert_eq!(expand(Hundredths, &program(""), places), Err(Failure::NoMemory));
     }
 }
 
@@ -141,7 +180,7 @@ fn a_thread_of_128_kb_is_enough() {
     let thread = std::thread::Builder::new().stack_size(128_000);
     let run = move || {
         let mut list = [0; 64];
-        let refused = expand_into(&program(nested), &mut list).unwrap_err();
+        let refused = expand_into(Hundredths, &program(nested), &mut list).unwrap_err();
         (refused.refusal, refused.line)
     };
     assert_eq!(thread.spawn(run).unwrap().join().unwrap(), (Refusal::TooManyCalls, 4));
@@ -160,6 +199,15 @@ fn the_header_has_the_same_refusals() {
         );
         let case = format!("case TOLKJIRP_{name}:\n        return \"{refusal}\";");
         assert!(HEADER.contains(&case), "{case}");
+    }
+}
+
+#[test]
+fn the_header_has_the_same_settings() {
+    for (setting, number) in [(Hundredths, 1), (Millimetres, 0)] {
+        assert_eq!(setting.number(), number);
+        let name = capitals(&format!("{setting:?}"));
+        assert!(HEADER.contains(&format!("    TOLKJIRP_{name} = {number}")), "{name}");
     }
 }
 

@@ -4,7 +4,7 @@ use std::sync::LazyLock;
 
 use crate::random::Random;
 
-/// Lines that are refused.
+/// Lines that are refused, some of them at one setting alone.
 static FAULTS: LazyLock<Vec<String>> = LazyLock::new(|| lines_of(include_str!("faults.txt")));
 
 /// Lines at the ends of what is allowed.
@@ -26,7 +26,7 @@ const ALPHABET: &[u8] = b"ABCDGIJKMNPQTUVWXY0123456789+-. \n";
 const LETTERS: &[u8] = b"AABDGGGGIJKMMNPQTUVWXXYYZ";
 const NUMBERS: &[&str] = &[
     "0", "1", "2", "5", "8", "12", "26", "28", "36", "50", "60", "70", "72", "90", "91", "93", "100", "10.", "2.5",
-    "-1", "+3",
+    "-1", "+3", "9999", "10000", "-9999", "-10000", "009999", "010000",
 ];
 
 /// Puts one to three faulty lines, or lines at the ends of what is allowed, into a program.

@@ -1,5 +1,8 @@
 //! Texts near the limits: of the text, the blocks, the stored characters, the calls, the places.
 
+use tolkjirp::Setting;
+
+use crate::notation::{measure, written_for};
 use crate::random::Random;
 
 /// A program padded to 59,998 to 60,002 bytes.
@@ -57,7 +60,7 @@ fn body_of(random: &mut Random, size: usize) -> String {
 }
 
 /// Macros that call one another, three to six deep.
-pub fn deep_calls(random: &mut Random) -> Vec<u8> {
+pub fn deep_calls(random: &mut Random, setting: Setting) -> Vec<u8> {
     let depth = random.within(3..=6);
     let mut text = String::from("G92X600.Y600.\nX10.Y10.T2\n");
     for level in 1..depth {
@@ -80,7 +83,7 @@ pub fn deep_calls(random: &mut Random) -> Vec<u8> {
         _ => format!("U5\nW{last}\nV5\nG98X10.Y10.J20.K2\nG76W5Q3\n"),
     });
     text.push_str("G50\n");
-    text.into_bytes()
+    written_for(setting, &text).into_bytes()
 }
 
 /// What comes when the blocks are spent, or nearly; a slash stands for a line feed.
@@ -112,47 +115,44 @@ pub fn many_blocks(random: &mut Random) -> Vec<u8> {
 }
 
 /// Sums that come to the farthest place, or one beyond.
-pub fn far_places(random: &mut Random) -> Vec<u8> {
+pub fn far_places(random: &mut Random, setting: Setting) -> Vec<u8> {
+    let at = |hundredths| measure(setting, hundredths);
     let beyond = random.within(-1..=1);
     let first = random.within(1..=999_998);
     let second = (999_999 + beyond - first).min(999_999);
     let mut text = String::from("G92X600.Y600.\nX10.Y10.T2\n");
     let columns = random.within(1..=99);
     let pitch = first / columns;
-    let rest = 999_999 + beyond - columns * pitch;
+    let rest = at(999_999 + beyond - columns * pitch);
     let (x, y) = random.pick(&[('X', 'Y'), ('Y', 'X')]);
+    let corner = 1 + random.below(4);
+    let (pitch, ninety) = (at(pitch), at(9_000));
     text.push_str(&match random.below(9) {
-        0 => format!("G93{x}{first}\nG98{x}{}{y}0\n", second.max(0)),
-        1 => format!("G98{x}{first}{y}0\nG93{x}{second}\n"),
-        2 => format!("G93{x}{first}\nG72{x}{second}\n"),
-        3 => format!("G93{x}-{first}\nG72{x}{}\nG28I1J0K1\n", -second),
-        4 => format!("G91G72{x}{}\nG36I0P0J0K0\n", 998_999 + beyond),
-        5 => format!("G28I{pitch}J45.K{columns}\nG72{x}{rest}\nG28I{pitch}J9000K{columns}\n"),
-        6 => format!(
-            "U60\nV60\nG98X{rest}Y5I{pitch}P{columns}K1\nG75W60Q{}\n",
-            1 + random.below(4)
-        ),
-        7 => format!(
-            "U60\nM8\nV60\nG98X5Y{rest}J{pitch}P1K{columns}D0\nG76W60Q{}\n",
-            1 + random.below(4)
-        ),
-        _ => format!(
-            "G36I{pitch}P{columns}J0K0\nG72X9999.99\nG26I{}J0K1\n",
-            1 + random.below(2)
-        ),
+        0 => format!("G93{x}{}\nG98{x}{}{y}0\n", at(first), at(second.max(0))),
+        1 => format!("G98{x}{}{y}0\nG93{x}{}\n", at(first), at(second)),
+        2 => format!("G93{x}{}\nG72{x}{}\n", at(first), at(second)),
+        3 => format!("G93{x}{}\nG72{x}{}\nG28I{}J0K1\n", at(-first), at(-second), at(1)),
+        4 => format!("G91G72{x}{}\nG36I0P0J0K0\n", at(998_999 + beyond)),
+        5 => format!("G28I{pitch}J45.K{columns}\nG72{x}{rest}\nG28I{pitch}J{ninety}K{columns}\n"),
+        6 => format!("U60\nV60\nG98X{rest}Y5I{pitch}P{columns}K1\nG75W60Q{corner}\n"),
+        7 => format!("U60\nM8\nV60\nG98X5Y{rest}J{pitch}P1K{columns}D0\nG76W60Q{corner}\n"),
+        _ => {
+            let radius = at(random.within(1..=2));
+            format!("G36I{pitch}P{columns}J0K0\nG72X9999.99\nG26I{radius}J0K1\n")
+        }
     });
     text.push_str("G50\n");
     text.into_bytes()
 }
 
 /// Hits and moves at the ends of both machines' ranges, or one beyond.
-pub fn range_ends(random: &mut Random) -> Vec<u8> {
+pub fn range_ends(random: &mut Random, setting: Setting) -> Vec<u8> {
     let (width, right) = random.pick(&[(600, 61_020), (1_000, 101_020)]);
     let mut text = format!("G92X{width}.Y600.\n");
     for number in 0..1 + random.below(5) {
         let (letter, end) = random.pick(&[('X', -1_020), ('X', right), ('Y', -1_020), ('Y', 61_020)]);
         let inward = if end < 0 { 1 } else { -1 };
-        let place = end + inward * random.pick(&[0, 0, 0, 0, 1, -1]);
+        let place = measure(setting, end + inward * random.pick(&[0, 0, 0, 0, 1, -1]));
         let code = random.pick(&["", "", "G90", "G70", "G70G90"]);
         text.push_str(&format!("{code}{letter}{place}T{}\n", 1 + number));
         if random.one_in(3) {
@@ -170,25 +170,26 @@ pub fn range_ends(random: &mut Random) -> Vec<u8> {
 }
 
 /// Lines, arcs and circles with large radii and any angles, most of them on the sheet.
-pub fn wide_patterns(random: &mut Random) -> Vec<u8> {
+pub fn wide_patterns(random: &mut Random, setting: Setting) -> Vec<u8> {
     let mut text = String::from("G92X600.Y600.\nX300.Y300.T2\n");
     for _ in 0..1 + random.below(3) {
-        let radius = random.within(1..=30_000);
-        let angle = random.within(-999_999..=999_999);
-        let step = random.within(-40_000..=40_000);
+        let unit = random.pick(&[1, 100]);
+        let mut within = |least: i32, most: i32| unit * random.within(least / unit..=most / unit);
+        let radius = within(unit, 30_000);
+        let angle = measure(setting, within(-999_999, 999_999));
+        let step = measure(setting, within(-40_000, 40_000));
+        let x = measure(setting, within(30_100, 30_999));
+        let y = measure(setting, within(30_100, 30_999));
         let count = random.within(1..=999);
-        let pitch = random.within(-radius..=radius) / count;
+        let pitch = measure(setting, random.within(-radius..=radius) / count);
+        let radius = measure(setting, radius);
         let pattern = match random.below(4) {
             0 => format!("G26I{radius}J{angle}K{count}"),
             1 => format!("G26I{radius}J{angle}K-{count}"),
             2 => format!("G29I{radius}J{angle}P{step}K{count}"),
             _ => format!("G28I{pitch}J{angle}K{count}"),
         };
-        text.push_str(&format!(
-            "G72X30{}Y30{}\n{pattern}\n",
-            random.within(100..=999),
-            random.within(100..=999)
-        ));
+        text.push_str(&format!("G72X{x}Y{y}\n{pattern}\n"));
     }
     text.push_str("G50\n");
     text.into_bytes()
@@ -205,7 +206,7 @@ const IN_PART: &str = "X10.Y10. B1 B1 B2 M12 M13 G91X1. G90Y5.T7 G72X3.Y4. A1G36
 const AFTER_RUN: &str = "B1 B2 G28I2.J0K2 X-1. G91X1. G90X5. W60 Y3.T8 G72X1.Y1. G93X1. M8";
 
 /// A layout with a part that changes all of the state, and blocks that show the state afterwards.
-pub fn layout_states(random: &mut Random) -> Vec<u8> {
+pub fn layout_states(random: &mut Random, setting: Setting) -> Vec<u8> {
     let mut text = String::from("G92X600.Y600.\nG70X400.Y400.\nA1G28I5.J30.K2T3\n");
     add_blocks(random, &mut text, BEFORE_RUN, 2);
     let (columns, rows) = (random.below(4), random.below(4));
@@ -221,7 +222,7 @@ pub fn layout_states(random: &mut Random) -> Vec<u8> {
         add_blocks(random, &mut text, AFTER_RUN, 2);
     }
     text.push_str("G50\n");
-    text.into_bytes()
+    written_for(setting, &text).into_bytes()
 }
 
 /// Adds so many blocks at most; a slash stands for a line feed.

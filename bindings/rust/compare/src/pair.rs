@@ -2,6 +2,10 @@
 
 use std::fmt::Write;
 
+use tolkjirp::Setting;
+
+use crate::libraries;
+
 /// The three numbers of an answer.
 #[derive(Clone, Copy, Debug, PartialEq, Eq)]
 pub struct Answer {
@@ -15,7 +19,8 @@ pub struct Answer {
 #[derive(Clone, Copy)]
 pub struct Expander {
     pub name: &'static str,
-    pub expand: fn(&[u8], &mut [i32]) -> Answer,
+    /// Expands a text at the setting that a number states.
+    pub expand: fn(i32, &[u8], &mut [i32]) -> Answer,
 }
 
 /// The proved library.
@@ -30,9 +35,17 @@ pub const PLAIN: Expander = Expander {
     expand: plain,
 };
 
-/// What the proved library answers.
-pub fn library(text: &[u8], list: &mut [i32]) -> Answer {
-    match tolkjirp::expand_into(text, list) {
+/// What the proved library answers: by its safe interface at setting 0 and 1, by its function at other numbers.
+pub fn library(setting: i32, text: &[u8], list: &mut [i32]) -> Answer {
+    match setting {
+        0 => safe_library(Setting::Millimetres, text, list),
+        1 => safe_library(Setting::Hundredths, text, list),
+        _ => libraries::function(setting, text, list),
+    }
+}
+
+fn safe_library(setting: Setting, text: &[u8], list: &mut [i32]) -> Answer {
+    match tolkjirp::expand_into(setting, text, list) {
         Ok(hits) => Answer {
             number: 0,
             count: hits.len(),
@@ -47,8 +60,8 @@ pub fn library(text: &[u8], list: &mut [i32]) -> Answer {
 }
 
 /// What the plain expander answers.
-pub fn plain(text: &[u8], list: &mut [i32]) -> Answer {
-    match plain::expand(text, list) {
+pub fn plain(setting: i32, text: &[u8], list: &mut [i32]) -> Answer {
+    match plain::expand(setting, text, list) {
         plain::Answer::Hits(count) => Answer {
             number: 0,
             count,
@@ -58,8 +71,9 @@ pub fn plain(text: &[u8], list: &mut [i32]) -> Answer {
     }
 }
 
-/// A text and list length for which the library and another expander differ.
+/// A setting, text and list length for which the library and another expander differ.
 pub struct Difference {
+    pub setting: i32,
     pub text: Vec<u8>,
     pub list_length: usize,
     pub library: Answer,
@@ -75,6 +89,7 @@ impl Difference {
         let mut report = String::new();
         let text = self.text.escape_ascii();
         writeln!(report, "text    b\"{text}\"").expect("a string takes all");
+        writeln!(report, "setting {}", self.setting).expect("a string takes all");
         writeln!(report, "list    {} numbers", self.list_length).expect("a string takes all");
         writeln!(report, "library {:?}", self.library).expect("a string takes all");
         let (name, answer) = self.other;
@@ -102,23 +117,30 @@ impl Pair {
     }
 
     /// Compares the library with the plain expander.
-    pub fn compare(&mut self, text: &[u8], list_length: usize) -> Result<Answer, Difference> {
-        self.compare_with(PLAIN, text, list_length)
+    pub fn compare(&mut self, setting: i32, text: &[u8], list_length: usize) -> Result<Answer, Difference> {
+        self.compare_with(PLAIN, setting, text, list_length)
     }
 
-    /// Expands a text by the library and another into two lists of a length, both full of other numbers before, and
-    /// gives the common answer.
-    pub fn compare_with(&mut self, other: Expander, text: &[u8], list_length: usize) -> Result<Answer, Difference> {
+    /// Expands a text at a setting by the library and another into two lists of a length, both full of other numbers
+    /// before, and gives the common answer.
+    pub fn compare_with(
+        &mut self,
+        other: Expander,
+        setting: i32,
+        text: &[u8],
+        list_length: usize,
+    ) -> Result<Answer, Difference> {
         let first = &mut self.first[..list_length];
         let second = &mut self.second[..list_length];
         first.fill(-77_777_777);
         second.fill(77_777_777);
-        let library = library(text, first);
-        let answer = (other.expand)(text, second);
+        let library = library(setting, text, first);
+        let answer = (other.expand)(setting, text, second);
         if library == answer && first == second {
             return Ok(library);
         }
         Err(Difference {
+            setting,
             text: text.to_vec(),
             list_length,
             library,

@@ -1,5 +1,7 @@
 //! Programs that are mostly valid, with every kind of block.
 
+use tolkjirp::Setting;
+
 use crate::scribe::{Scribe, Temper};
 
 /// Writes programs.
@@ -15,9 +17,9 @@ pub struct Programmer {
 }
 
 impl Programmer {
-    pub fn new(seed: u64) -> Programmer {
+    pub fn new(seed: u64, setting: Setting) -> Programmer {
         Programmer {
-            scribe: Scribe::new(seed),
+            scribe: Scribe::new(seed, setting),
             is_relative: Some(false),
             stored: Vec::new(),
             memories: Vec::new(),
@@ -53,7 +55,13 @@ impl Programmer {
                 .random
                 .pick(&[(60_000, 60_001), (100_000, 100_000), (600, 600), (-60_000, 60_000)]);
         }
-        let mut words = ["G92".to_string(), scribe.measure('X', x), scribe.measure('Y', y)];
+        // With points it is the same machine at the other setting.
+        let [x, y] = if scribe.random.one_in(2) {
+            [scribe.pointed('X', x), scribe.pointed('Y', y)]
+        } else {
+            [scribe.measure('X', x), scribe.measure('Y', y)]
+        };
+        let mut words = ["G92".to_string(), x, y];
         scribe.block(&mut words);
     }
 

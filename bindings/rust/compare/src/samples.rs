@@ -1,49 +1,77 @@
 //! The texts of a comparison, by number.
 
+use tolkjirp::Setting;
+
 use crate::damage;
 use crate::limits;
 use crate::programs::Programmer;
 use crate::random::Random;
 
-/// The text that a seed gives.
-pub fn sample(seed: u64) -> Vec<u8> {
+/// A text, and the setting that it is written for.
+#[derive(Debug, PartialEq, Eq)]
+pub struct Sample {
+    pub setting: Setting,
+    pub text: Vec<u8>,
+}
+
+/// The sample that a seed gives.
+pub fn sample(seed: u64) -> Sample {
     let mut random = Random::new(seed ^ 0x5eed);
-    if random.one_in(1_000) {
-        return limits::many_blocks(&mut random);
-    }
-    if random.one_in(1_000) {
-        return limits::long_text(&mut random, program(seed));
-    }
-    match random.below(100) {
-        0..=34 => program(seed),
-        35..=59 => {
-            let mut text = program(seed);
-            damage::insert_lines(&mut random, &mut text);
-            text
-        }
-        60..=79 => {
-            let mut text = program(seed);
-            damage::damage(&mut random, &mut text);
-            text
-        }
-        80..=81 => damage::noise(&mut random),
-        82 => limits::full_store(&mut random),
-        83..=86 => limits::deep_calls(&mut random),
-        87..=90 => limits::far_places(&mut random),
-        91..=92 => limits::range_ends(&mut random),
-        93 => limits::wide_patterns(&mut random),
-        _ => limits::layout_states(&mut random),
+    let setting = random.pick(&[Setting::Hundredths, Setting::Millimetres]);
+    Sample {
+        setting,
+        text: text(&mut random, seed, setting),
     }
 }
 
-fn program(seed: u64) -> Vec<u8> {
-    Programmer::new(seed).write()
+/// A text for a setting.
+fn text(random: &mut Random, seed: u64, setting: Setting) -> Vec<u8> {
+    let program = || Programmer::new(seed, setting).write();
+    if random.one_in(1_000) {
+        return limits::many_blocks(random);
+    }
+    if random.one_in(1_000) {
+        return limits::long_text(random, program());
+    }
+    match random.below(100) {
+        0..=34 => program(),
+        35..=59 => {
+            let mut text = program();
+            damage::insert_lines(random, &mut text);
+            text
+        }
+        60..=79 => {
+            let mut text = program();
+            damage::damage(random, &mut text);
+            text
+        }
+        80..=81 => damage::noise(random),
+        82 => limits::full_store(random),
+        83..=86 => limits::deep_calls(random, setting),
+        87..=90 => limits::far_places(random, setting),
+        91..=92 => limits::range_ends(random, setting),
+        93 => limits::wide_patterns(random, setting),
+        _ => limits::layout_states(random, setting),
+    }
 }
 
 #[cfg(test)]
 mod tests {
     use super::*;
-    use crate::pair::Pair;
+    use crate::pair::{plain, Pair};
+
+    /// How many of 3,000 answers are met, by number.
+    fn tally(setting: Setting) -> [u32; 18] {
+        let mut pair = Pair::new(16_384);
+        let mut met = [0; 18];
+        for seed in 0..3_000 {
+            let list_length = if seed % 3 == 0 { 40 } else { 16_384 };
+            let answer = pair.compare(setting.number(), &sample(seed).text, list_length);
+            let answer = answer.unwrap_or_else(|difference| panic!("{}", difference.describe()));
+            met[usize::from(answer.number)] += 1;
+        }
+        met
+    }
 
     #[test]
     fn texts_follow_from_their_seeds() {
@@ -53,15 +81,23 @@ mod tests {
 
     #[test]
     fn the_expanders_agree_and_refuse_in_many_ways() {
-        let mut pair = Pair::new(16_384);
-        let mut met = [false; 18];
-        for seed in 0..3_000 {
-            let list_length = if seed % 3 == 0 { 40 } else { 16_384 };
-            let answer = pair.compare(&sample(seed), list_length);
-            let answer = answer.unwrap_or_else(|difference| panic!("{}", difference.describe()));
-            met[usize::from(answer.number)] = true;
+        for setting in [Setting::Hundredths, Setting::Millimetres] {
+            let met = tally(setting);
+            let missing: Vec<_> = (0..18).filter(|&number| met[number] == 0).collect();
+            assert!(missing.is_empty(), "never met at {setting:?}: {missing:?}");
         }
-        let missing: Vec<_> = (0..18).filter(|&number| !met[number]).collect();
-        assert!(missing.is_empty(), "never met: {missing:?}");
+    }
+
+    #[test]
+    fn programs_are_mostly_accepted_at_their_own_setting() {
+        for setting in [Setting::Hundredths, Setting::Millimetres] {
+            let mut list = vec![0; 16_384];
+            let mut is_accepted = |seed| {
+                let text = Programmer::new(seed, setting).write();
+                plain(setting.number(), &text, &mut list).number == 0
+            };
+            let accepted = (0..1_000).filter(|&seed| is_accepted(seed)).count();
+            assert!(accepted > 500, "{accepted} of 1,000 at {setting:?}");
+        }
     }
 }

@@ -1,5 +1,7 @@
 //! Writing words and blocks in the many ways that the rules allow.
 
+use tolkjirp::Setting;
+
 use crate::random::Random;
 
 /// How often values at the ends of their ranges are written.
@@ -21,23 +23,27 @@ enum Spacing {
     Anywhere,
 }
 
-/// Writes a text.
+/// Writes a text for a setting.
 pub struct Scribe {
     pub random: Random,
     pub temper: Temper,
+    setting: Setting,
     pub text: Vec<u8>,
     spacing: Spacing,
     writes_plainly: bool,
 }
 
-/// Lengths at which something changes.
+/// Lengths at which something changes, in hundredths.
 const EDGES: [i32; 20] = [
     0, 1, -1, -1_020, -1_021, 59_999, 60_000, 61_020, 61_021, 100_000, 101_020, 101_021, 939_999, 940_000, 899_999,
     900_000, 999_999, -999_999, 999_998, 499_999,
 ];
 
+/// Whole millimetres or degrees at which setting 0 refuses, and those before them.
+const WHOLE_EDGES: [i32; 6] = [9_999, -9_999, 10_000, -10_000, 99_999, 999_999];
+
 impl Scribe {
-    pub fn new(seed: u64) -> Scribe {
+    pub fn new(seed: u64, setting: Setting) -> Scribe {
         let mut random = Random::new(seed);
         let temper = match random.below(6) {
             0..=2 => Temper::Calm,
@@ -49,6 +55,7 @@ impl Scribe {
         Scribe {
             random,
             temper,
+            setting,
             text: Vec::new(),
             spacing,
             writes_plainly,
@@ -64,12 +71,31 @@ impl Scribe {
         }
     }
 
-    /// A length, usually within the given limits.
+    /// A length in hundredths, usually within the given limits.
     pub fn length(&mut self, least: i32, most: i32) -> i32 {
         if self.is_edge_due() {
-            self.random.pick(&EDGES)
+            self.edge()
         } else {
-            self.random.within(least..=most)
+            self.within(least, most)
+        }
+    }
+
+    /// So many hundredths within limits; for setting 0 mostly whole millimetres or degrees.
+    fn within(&mut self, least: i32, most: i32) -> i32 {
+        match self.setting {
+            Setting::Millimetres if !self.random.one_in(6) => {
+                let least = (least + 99).div_euclid(100);
+                100 * self.random.within(least..=most / 100)
+            }
+            _ => self.random.within(least..=most),
+        }
+    }
+
+    /// A length or an angle at which something changes.
+    fn edge(&mut self) -> i32 {
+        match self.setting {
+            Setting::Millimetres if self.random.one_in(4) => 100 * self.random.pick(&WHOLE_EDGES),
+            _ => self.random.pick(&EDGES),
         }
     }
 
@@ -84,28 +110,63 @@ impl Scribe {
 
     /// An angle in hundredths of a degree.
     pub fn angle(&mut self) -> i32 {
+        if self.is_edge_due() {
+            return self.edge();
+        }
         match self.random.below(4) {
             0 => 100 * self.random.within(-360..=360),
             1 => 1_500 * self.random.within(-24..=24),
-            2 => self.random.within(-36_000..=36_000),
-            _ => self.random.within(-999_999..=999_999),
+            2 => self.within(-36_000, 36_000),
+            _ => self.within(-999_999, 999_999),
         }
     }
 
-    /// A word with a length or an angle.
+    /// A word with a length or an angle of so many hundredths.
     pub fn measure(&mut self, letter: char, value: i32) -> String {
         let sign = self.sign(value);
         let size = value.unsigned_abs();
-        let decimals = size % 100;
-        if self.random.one_in(if decimals == 0 { 6 } else { 2 }) {
-            return format!("{letter}{sign}{}", self.padded(size, 6));
+        let digits = if self.is_point_due(size) {
+            self.with_point(size)
+        } else {
+            self.without_point(size)
+        };
+        format!("{letter}{sign}{digits}")
+    }
+
+    /// The same, with a point.
+    pub fn pointed(&mut self, letter: char, value: i32) -> String {
+        let sign = self.sign(value);
+        let digits = self.with_point(value.unsigned_abs());
+        format!("{letter}{sign}{digits}")
+    }
+
+    /// Whether so many hundredths are to be written with a point, which takes fewer than a million.
+    fn is_point_due(&mut self, size: u32) -> bool {
+        match (self.setting, size % 100) {
+            (Setting::Hundredths, 0) => !self.random.one_in(6),
+            (Setting::Hundredths, _) => self.random.one_in(2),
+            (Setting::Millimetres, 0) => size < 1_000_000 && self.random.one_in(6),
+            (Setting::Millimetres, _) => true,
         }
+    }
+
+    /// The digits of so many hundredths without a point.
+    fn without_point(&mut self, size: u32) -> String {
+        match self.setting {
+            Setting::Hundredths => self.padded(size, 6),
+            Setting::Millimetres => self.padded(size / 100, 6),
+        }
+    }
+
+    /// The digits of so many hundredths with a point.
+    fn with_point(&mut self, size: u32) -> String {
+        let decimals = size % 100;
         let decimals = match decimals {
             0 => self.random.pick(&["", "", "", "0", "00"]).to_string(),
             10 | 20 | 30 | 40 | 50 if self.random.one_in(2) => (decimals / 10).to_string(),
             _ => format!("{decimals:02}"),
         };
-        format!("{letter}{sign}{}.{decimals}", self.padded(size / 100, 4))
+        format!("{}.{decimals}", self.padded(size / 100, 4))
     }
 
     /// A word with a whole number.

@@ -1,8 +1,13 @@
 //! Texts to measure with.
 
-/// A text, what it is, and the numbers of its list.
+use tolkjirp::Setting;
+
+use crate::notation::written_for;
+
+/// A text, what it is, its setting, and the numbers of its list.
 pub struct Workload {
     pub name: &'static str,
+    pub setting: Setting,
     pub text: Vec<u8>,
     pub list_length: usize,
 }
@@ -16,14 +21,31 @@ const MOST_BYTES: usize = 60_000;
 /// The numbers of a list for 4,096 hits.
 const USUAL: usize = 16_384;
 
-/// All texts to measure with.
+/// The name and the bytes of a text, and the numbers of its list.
+type Row = (&'static str, String, usize);
+
+/// All texts to measure with: those for setting 1, and then some of them as they are written for setting 0.
 pub fn workloads() -> Vec<Workload> {
-    [
+    let at = |setting| {
+        move |(name, text, list_length): Row| Workload {
+            name,
+            setting,
+            text: text.into_bytes(),
+            list_length,
+        }
+    };
+    let in_hundredths = in_hundredths().into_iter().map(at(Setting::Hundredths));
+    let in_millimetres = in_millimetres().into_iter().map(at(Setting::Millimetres));
+    in_hundredths.chain(in_millimetres).collect()
+}
+
+fn in_hundredths() -> Vec<Row> {
+    vec![
         ("shortest program", shortest(), 16),
         ("shortest program", shortest(), USUAL),
         ("small plate", small_plate(), 64),
         ("small plate", small_plate(), USUAL),
-        ("60,000 bytes without macros", flat(), USUAL),
+        ("60,000 bytes without macros", flat(Setting::Hundredths), USUAL),
         ("90,000 blocks through nested macros", nested(), USUAL),
         ("grid of 4,096 hits", grid(), USUAL),
         ("arcs and circles", arcs(), USUAL),
@@ -45,12 +67,16 @@ pub fn workloads() -> Vec<Workload> {
         ("  after 3,000 line feeds", one_block(&line_feeds(3_000), ""), USUAL),
         ("4 x 10,000 copies, two blocks far apart", two_blocks(), USUAL),
     ]
-    .map(|(name, text, list_length)| Workload {
-        name,
-        text: text.into_bytes(),
-        list_length,
-    })
-    .into()
+}
+
+fn in_millimetres() -> Vec<Row> {
+    let written = |text: String| written_for(Setting::Millimetres, &text);
+    vec![
+        ("small plate, whole millimetres", written(small_plate()), 64),
+        ("60,000 bytes, whole millimetres", flat(Setting::Millimetres), USUAL),
+        ("nested macros, whole millimetres", written(nested()), USUAL),
+        ("4,096 copies, whole millimetres", written(copies()), USUAL),
+    ]
 }
 
 fn spaces(count: usize) -> String {
@@ -70,8 +96,8 @@ fn small_plate() -> String {
 }
 
 /// Positions, two in three with both axes, up to 60,000 bytes.
-fn flat() -> String {
-    let mut text = format!("{G92}X10. Y10. T2\n");
+fn flat(setting: Setting) -> String {
+    let mut text = written_for(setting, &format!("{G92}X10. Y10. T2\n"));
     for number in 0.. {
         let (x, y) = (number * 37 % 600, number * 91 % 600);
         let block = match number % 3 {
@@ -79,6 +105,7 @@ fn flat() -> String {
             1 => format!("X{x}.5 Y{y}.25\n"),
             _ => format!("N{} G70 X{x}.\n", number % 10_000),
         };
+        let block = written_for(setting, &block);
         if text.len() + block.len() + G50.len() > MOST_BYTES {
             break;
         }
@@ -182,7 +209,7 @@ mod tests {
     fn workloads_are_accepted() {
         let mut pair = Pair::new(USUAL);
         for workload in workloads() {
-            let compared = pair.compare(&workload.text, workload.list_length);
+            let compared = pair.compare(workload.setting.number(), &workload.text, workload.list_length);
             let answer = compared.unwrap_or_else(|difference| panic!("{}", difference.describe()));
             assert_eq!(answer.number, 0, "{}", workload.name);
         }

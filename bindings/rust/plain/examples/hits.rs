@@ -1,5 +1,6 @@
 //! Prints the hits of a program text as the plain expander gives them: nothing is proved of it, and nothing but Rust is
-//! needed. `hits FILE` ends with 1 if the text is refused, with 2 if it can't be read or the hits can't be written.
+//! needed. `hits FILE` goes by decimal point setting 1, `hits -0 FILE` by setting 0, at which X100 is 100 mm. It ends with
+//! 1 if the text is refused, with 2 if it can't be read or the hits can't be written.
 
 use std::io::{self, BufWriter, Write};
 use std::process::ExitCode;
@@ -12,11 +13,15 @@ const LIST_LENGTH: usize = 16_384;
 
 fn main() -> ExitCode {
     let words: Vec<_> = env::args_os().skip(1).collect();
-    let [name] = &words[..] else {
-        eprintln!("usage: hits FILE");
-        return ExitCode::from(2);
+    let (setting, name) = match &words[..] {
+        [option, name] if option == "-0" => (0, name),
+        [name] => (1, name),
+        _ => {
+            eprintln!("usage: hits [-0] FILE");
+            return ExitCode::from(2);
+        }
     };
-    match fs::read(name).and_then(|text| print_answer(&text)) {
+    match fs::read(name).and_then(|text| print_answer(setting, &text)) {
         Ok(Answer::Hits(_)) => ExitCode::SUCCESS,
         Ok(Answer::Refused { .. }) => ExitCode::FAILURE,
         Err(error) => {
@@ -26,9 +31,9 @@ fn main() -> ExitCode {
     }
 }
 
-fn print_answer(text: &[u8]) -> io::Result<Answer> {
+fn print_answer(setting: i32, text: &[u8]) -> io::Result<Answer> {
     let mut list = vec![0; LIST_LENGTH];
-    let answer = expand(text, &mut list);
+    let answer = expand(setting, text, &mut list);
     let mut out = BufWriter::new(io::stdout().lock());
     match answer {
         Answer::Refused { number, line } => writeln!(out, "REFUSED {number} LINE {line}")?,

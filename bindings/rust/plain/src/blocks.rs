@@ -5,6 +5,7 @@ use crate::order::Along;
 use crate::patterns::Pattern;
 use crate::press::{Mode, Point, Reading, Tool};
 use crate::refusal::Refusal;
+use crate::setting::Setting;
 use crate::words::{letters, Code, Number, Words};
 
 /// The X and Y of a block, where they are named.
@@ -125,6 +126,9 @@ impl Block {
     pub fn read(words: &mut Words, line: &[u8]) -> Result<Block, Refusal> {
         words.read(line)?;
         let (kind, reading) = kind_of(words)?;
+        if words.setting() == Setting::Millimetres {
+            words.count_hundredths(measures_of(kind))?;
+        }
         if let Some(number) = words.get(b'N') {
             whole(number, 0, 9999)?;
         }
@@ -210,6 +214,17 @@ fn coded_kind(words: &Words, code: &Code, reading: Option<Reading>) -> Option<(K
         && reading.is_none_or(|reading| listed.beside.contains(&reading))
         && words.memory_place().is_none_or(|place| place < code.place);
     fits.then_some((Kind::G(number), reading))
+}
+
+/// The letters of a kind of block that are lengths or angles; its other numbers are whole.
+fn measures_of(kind: Kind) -> u32 {
+    match kind {
+        Kind::Position | Kind::G(70 | 72 | 92 | 93) => XY,
+        Kind::G(26 | 28 | 36 | 37) => letters(b"IJ"),
+        Kind::G(29) => letters(b"IJP"),
+        Kind::G(98) => letters(b"XYIJD"),
+        _ => 0,
+    }
 }
 
 /// What a block of a kind asks for; refusal 6.
@@ -360,14 +375,19 @@ fn check(is_right: bool, value: i32) -> Result<i32, Refusal> {
 mod tests {
     use super::*;
 
-    fn refusal(line: &str) -> u8 {
-        Block::read(&mut Words::default(), line.as_bytes()).map_or_else(|refusal| refusal as u8, |_| 0)
+    fn refusal(setting: Setting, line: &str) -> u8 {
+        Block::read(&mut Words::new(setting), line.as_bytes()).map_or_else(|refusal| refusal as u8, |_| 0)
+    }
+
+    fn all_give_at(setting: Setting, number: u8, lines: &str) {
+        for line in lines.split_whitespace() {
+            assert_eq!(refusal(setting, line), number, "{line} {setting:?}");
+        }
     }
 
     fn all_give(number: u8, lines: &str) {
-        for line in lines.split_whitespace() {
-            assert_eq!(refusal(line), number, "{line}");
-        }
+        all_give_at(Setting::Hundredths, number, lines);
+        all_give_at(Setting::Millimetres, number, lines);
     }
 
     #[test]
@@ -404,8 +424,40 @@ mod tests {
     }
 
     #[test]
+    fn lengths_and_angles_past_the_limit_are_refused_at_setting_0() {
+        let lines = "X10000 Y-10000 X1Y010000T2 G90X999999 G70X-999999 G72Y10000 G92X60000Y60000 G92X600Y10000 \
+             G93X10000 G98X10000Y1 G98X1Y10000 G98X1Y1I10000 G98X1Y1J10000 G98X1Y1D10000 G28I10000J0K1 \
+             G28I0J-10000K1 G29I10000J0P0K1 G29I1J10000P0K1 G29I1J0P10000K1 G26I10000J0K1 G26I1J10000K1 \
+             G36I10000P0J0K0 G36I0P0J10000K0 G37I-10000P0J0K0 G37I0P0J-10000K0 A1G28I0J10000K1";
+        all_give_at(Setting::Millimetres, 6, lines);
+        all_give_at(Setting::Hundredths, 0, lines);
+    }
+
+    #[test]
+    fn lengths_and_angles_may_have_9999_at_setting_0() {
+        all_give(
+            0,
+            "X9999Y-9999 X009999 G70X9999 G72Y-9999 G92X9999Y9999 G93X9999Y-9999 G98X9999Y9999I9999J9999D9999 \
+             G28I-9999J9999K1 G29I9999J-9999P9999K1 G26I9999J9999K1 G36I9999P0J-9999K0 G37I-9999P0J009999K0 \
+             X9999.99Y-9999.99 G28I9999.99J-9999.99K1",
+        );
+    }
+
+    #[test]
+    fn whole_numbers_do_not_go_by_the_setting() {
+        all_give(
+            0,
+            "N9999M0 X1T99 U89 W89 B5 G75W89Q4 G28I1J1K999 G26I1J1K-999 G36I1P999J1K999 G98X1Y1P99K99",
+        );
+        all_give(
+            6,
+            "N10000M0 X1T10000 W10000 G28I1J1K10000 G36I1P10000J1K1 G98X1Y1P10000",
+        );
+    }
+
+    #[test]
     fn form_comes_before_letters_and_letters_before_numbers() {
         all_give(4, "X1X C1T0N X1X1.234");
-        all_give(5, "T100X1X1 N10000");
+        all_give(5, "T100X1X1 N10000 X10000X1 G72X10000T1 G28I10000J1 G92X10000");
     }
 }

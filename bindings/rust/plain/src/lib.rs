@@ -5,7 +5,7 @@
 //! ```
 //! let mut list = [-1; 16];
 //! let text = b"G92 X600. Y600.\nG90 X100. Y100. T2\nG28 I10. J45. K2\nG50\n";
-//! assert_eq!(plain::expand(text, &mut list), plain::Answer::Hits(3));
+//! assert_eq!(plain::expand(1, text, &mut list), plain::Answer::Hits(3));
 //! assert_eq!(list, [10000, 10000, 2, 0, 10707, 10707, 2, 0, 11414, 11414, 2, 0, 0, 0, 0, 0]);
 //! ```
 
@@ -17,6 +17,7 @@ mod patterns;
 mod press;
 mod program;
 mod refusal;
+mod setting;
 mod sine;
 mod text;
 mod words;
@@ -24,6 +25,7 @@ mod words;
 use press::{HitList, Press};
 use program::Expander;
 use refusal::Refused;
+use setting::Setting;
 use text::Text;
 
 /// What a text comes to.
@@ -37,9 +39,11 @@ pub enum Answer {
 
 /// Expands a text into the lent list, four numbers a hit: X, Y, tool, mode.
 ///
-/// The numbers after the hits, and after a refusal all numbers, are zero.
-pub fn expand(text: &[u8], list: &mut [i32]) -> Answer {
-    match expand_hits(text, list) {
+/// The setting is the decimal point setting: at 0, lengths and angles without a point count whole millimetres and
+/// degrees; any other number counts as 1, and they count hundredths. The numbers after the hits, and after a refusal all
+/// numbers, are zero.
+pub fn expand(setting: i32, text: &[u8], list: &mut [i32]) -> Answer {
+    match expand_hits(Setting::from_number(setting), text, list) {
         Ok(hits) => {
             list[4 * hits..].fill(0);
             Answer::Hits(hits)
@@ -55,7 +59,7 @@ pub fn expand(text: &[u8], list: &mut [i32]) -> Answer {
 }
 
 /// Writes the hits of a text to the start of the list and counts them.
-fn expand_hits(text: &[u8], list: &mut [i32]) -> Result<usize, Refused> {
+fn expand_hits(setting: Setting, text: &[u8], list: &mut [i32]) -> Result<usize, Refused> {
     let text = Text::read(text)?;
-    Expander::new(&text, Press::new(HitList::new(list))).run()
+    Expander::new(setting, &text, Press::new(HitList::new(list))).run()
 }

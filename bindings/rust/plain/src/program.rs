@@ -6,6 +6,7 @@ use crate::macros::{runs_first, Body, Store, MOST_CALLS};
 use crate::order::Along;
 use crate::press::{Point, Press};
 use crate::refusal::{Refusal, Refused};
+use crate::setting::Setting;
 use crate::text::{Line, Text};
 use crate::words::Words;
 
@@ -37,10 +38,10 @@ pub struct Expander<'t, 'l> {
 }
 
 impl<'t, 'l> Expander<'t, 'l> {
-    pub fn new(text: &'t Text, press: Press<'l>) -> Expander<'t, 'l> {
+    pub fn new(setting: Setting, text: &'t Text, press: Press<'l>) -> Expander<'t, 'l> {
         Expander {
             text,
-            words: Words::default(),
+            words: Words::new(setting),
             press,
             stage: Stage::BeforeG92,
             line: 0,

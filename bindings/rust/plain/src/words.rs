@@ -1,11 +1,14 @@
 //! Words: a letter with a number.
 
+use crate::press::is_far;
 use crate::refusal::Refusal;
+use crate::setting::Setting;
 
 /// The number of a word as it is written.
 #[derive(Clone, Copy, Default)]
 pub struct Number {
-    /// In hundredths if there is a point or the word is a length or an angle, else a whole number.
+    /// In hundredths if there is a point or the word is a length or an angle, at setting 0 once they have been turned
+    /// into hundredths; else a whole number.
     pub value: i32,
     marks: u32,
 }
@@ -32,8 +35,9 @@ pub struct Code {
 }
 
 /// The words of a block, by letter. One value serves all blocks, so that it is not cleared for each.
-#[derive(Default)]
 pub struct Words {
+    /// What lengths and angles without a point count.
+    setting: Setting,
     /// The numbers of the letters that occur; the others are left from earlier blocks.
     numbers: [Number; 26],
     letters: u32,
@@ -56,6 +60,24 @@ pub const fn letters(names: &[u8]) -> u32 {
 }
 
 impl Words {
+    /// No words yet.
+    pub fn new(setting: Setting) -> Words {
+        Words {
+            setting,
+            numbers: [Number::default(); 26],
+            letters: 0,
+            codes: [Code::default(); 2],
+            code_count: 0,
+            count: 0,
+            memory_place: 0,
+            is_misplaced: false,
+        }
+    }
+
+    pub fn setting(&self) -> Setting {
+        self.setting
+    }
+
     /// Reads the words of a line in place of those read before; refusal 4.
     pub fn read(&mut self, line: &[u8]) -> Result<(), Refusal> {
         self.letters = 0;
@@ -100,6 +122,24 @@ impl Words {
         } else {
             self.is_misplaced = true;
         }
+    }
+
+    /// Turns the numbers of these letters, where they have no point, from whole millimetres or degrees into hundredths;
+    /// refusal 6. Not inlined, so that it takes no time at setting 1.
+    #[inline(never)]
+    pub fn count_hundredths(&mut self, measures: u32) -> Result<(), Refusal> {
+        let mut left = measures & self.letters;
+        while left != 0 {
+            let number = &mut self.numbers[left.trailing_zeros() as usize];
+            if !number.has_point() {
+                number.value *= 100;
+            }
+            if is_far(number.value) {
+                return Err(Refusal::NumberRange);
+            }
+            left &= left - 1;
+        }
+        Ok(())
     }
 
     /// The letters that occur, G not counted.
@@ -178,7 +218,7 @@ mod tests {
     use super::*;
 
     fn value(line: &[u8]) -> Option<i32> {
-        let mut words = Words::default();
+        let mut words = Words::new(Setting::Hundredths);
         words.read(line).ok()?;
         words.get(b'X').map(|number| number.value)
     }
@@ -193,6 +233,35 @@ mod tests {
         assert_eq!(value(b"X-0"), Some(0));
     }
 
+    /// X in hundredths at setting 0, unless it is refused.
+    fn hundredths(line: &str) -> Option<i32> {
+        let mut words = Words::new(Setting::Millimetres);
+        words.read(line.as_bytes()).ok()?;
+        words.count_hundredths(letters(b"X")).ok()?;
+        words.get(b'X').map(|number| number.value)
+    }
+
+    #[test]
+    fn lengths_without_a_point_are_multiplied_at_setting_0() {
+        assert_eq!(hundredths("X100"), Some(10_000));
+        assert_eq!(hundredths("X000100"), Some(10_000));
+        assert_eq!(hundredths("X-7"), Some(-700));
+        assert_eq!(hundredths("X-0"), Some(0));
+        assert_eq!(hundredths("X9999"), Some(999_900));
+        assert_eq!(hundredths("X-009999"), Some(-999_900));
+        assert_eq!(hundredths("X10000"), None);
+        assert_eq!(hundredths("X-010000"), None);
+        assert_eq!(hundredths("X999999"), None);
+        assert_eq!(hundredths("X1Y10000"), Some(100));
+    }
+
+    #[test]
+    fn lengths_with_a_point_stay_at_setting_0() {
+        for line in ["X100.", "X1.", "X0.01", "X-45.5", "X9999.99", "X-9999."] {
+            assert_eq!(hundredths(line), value(line.as_bytes()), "{line}");
+        }
+    }
+
     #[test]
     fn other_forms_are_refused() {
         let wrong = "X X+ X.5 X1234567 X12345. X1.234 X1.2. X--1 1X1 X1- XX1 . -";
@@ -203,7 +272,7 @@ mod tests {
 
     #[test]
     fn places_are_kept() {
-        let mut words = Words::default();
+        let mut words = Words::new(Setting::Hundredths);
         assert_eq!(words.read(b"A1G90Y5G28"), Ok(()));
         assert_eq!(words.memory_place(), Some(0));
         assert!(!words.is_misplaced());
@@ -213,7 +282,7 @@ mod tests {
 
     #[test]
     fn repeated_and_late_words_are_noticed() {
-        let mut words = Words::default();
+        let mut words = Words::new(Setting::Hundredths);
         for (line, is_misplaced) in [
             ("N1X1", false),
             ("X1N1", true),
@@ -228,7 +297,7 @@ mod tests {
 
     #[test]
     fn earlier_words_are_forgotten() {
-        let mut words = Words::default();
+        let mut words = Words::new(Setting::Hundredths);
         assert_eq!(words.read(b"X5G90"), Ok(()));
         assert_eq!(words.read(b"Y5"), Ok(()));
         assert!(words.get(b'X').is_none());

@@ -2,10 +2,10 @@
 
 use plain::{expand, Answer};
 
-/// The answer to a text and the hits as X, Y, tool and mode.
-fn expand_text(text: &str) -> (Answer, Vec<[i32; 4]>) {
+/// The answer to a text at a setting, and the hits as X, Y, tool and mode.
+fn expand_at(setting: i32, text: &str) -> (Answer, Vec<[i32; 4]>) {
     let mut list = vec![-1; 16_384];
-    let answer = expand(text.as_bytes(), &mut list);
+    let answer = expand(setting, text.as_bytes(), &mut list);
     let count = match answer {
         Answer::Hits(count) => count,
         Answer::Refused { .. } => 0,
@@ -13,6 +13,11 @@ fn expand_text(text: &str) -> (Answer, Vec<[i32; 4]>) {
     assert!(list[4 * count..].iter().all(|&number| number == 0));
     let hits = list.chunks_exact(4).take(count);
     (answer, hits.map(|hit| hit.try_into().unwrap()).collect())
+}
+
+/// The same at setting 1.
+fn expand_text(text: &str) -> (Answer, Vec<[i32; 4]>) {
+    expand_at(1, text)
 }
 
 /// The places of the hits between G92 of the ARIES-222 and G50.
@@ -133,7 +138,7 @@ fn blocks_may_be_100000() {
 #[test]
 fn a_list_may_be_exactly_full() {
     let text = program("X1. T2\nX2.");
-    let expand_into = |list: &mut [i32]| expand(text.as_bytes(), list);
+    let expand_into = |list: &mut [i32]| expand(1, text.as_bytes(), list);
     assert_eq!(expand_into(&mut [-1; 8]), Answer::Hits(2));
     let mut list = [-1; 7];
     assert_eq!(expand_into(&mut list), Answer::Refused { number: 17, line: 3 });

@@ -39,7 +39,7 @@ fn main() -> ExitCode {
     let mut pair = Pair::new(LONGEST_LIST);
     for workload in workloads {
         match check(&mut pair, &workload) {
-            Ok(answer) => print_times(&workload, answer, &measure(&workload, rounds)),
+            Ok((answer, expanders)) => print_times(&workload, answer, &measure(&workload, expanders, rounds)),
             Err(difference) => {
                 println!("{}\n{}", workload.name, difference.describe());
                 return ExitCode::FAILURE;
@@ -49,30 +49,29 @@ fn main() -> ExitCode {
     ExitCode::SUCCESS
 }
 
-/// The expanders to measure: the library, the plain one, and the older library if there is one.
-fn expanders() -> Vec<Expander> {
-    match NEW_AND_OLD {
-        None => vec![LIBRARY, PLAIN],
-        Some([new, old]) => vec![new, PLAIN, old],
-    }
-}
-
-/// The answer to a text, if all expanders give the same.
-fn check(pair: &mut Pair, workload: &Workload) -> Result<Answer, Difference> {
-    for other in NEW_AND_OLD.into_iter().flatten() {
-        pair.compare_with(other, &workload.text, workload.list_length)?;
-    }
-    pair.compare(&workload.text, workload.list_length)
+/// The answer to a text, if the library and the plain expander give the same, and the expanders to measure: these two, and
+/// the older library if there is one that answers alike.
+fn check(pair: &mut Pair, workload: &Workload) -> Result<(Answer, Vec<Expander>), Difference> {
+    let (setting, text) = (workload.setting.number(), &workload.text);
+    let mut alike = |other| pair.compare_with(other, setting, text, workload.list_length);
+    let answer = alike(PLAIN)?;
+    let Some([new, old]) = NEW_AND_OLD else {
+        return Ok((answer, vec![LIBRARY, PLAIN]));
+    };
+    alike(new)?;
+    let mut expanders = vec![new, PLAIN];
+    expanders.extend(alike(old).is_ok().then_some(old));
+    Ok((answer, expanders))
 }
 
 /// Measures all expanders in turn and gives the least nanoseconds of each.
-fn measure(workload: &Workload, rounds: usize) -> Vec<f64> {
+fn measure(workload: &Workload, expanders: Vec<Expander>, rounds: usize) -> Vec<f64> {
     let mut list = vec![0; workload.list_length];
-    let new_timing = |expander| Timing::new(expander, &workload.text, &mut list);
-    let mut timings: Vec<_> = expanders().into_iter().map(new_timing).collect();
+    let new_timing = |expander| Timing::new(expander, workload, &mut list);
+    let mut timings: Vec<_> = expanders.into_iter().map(new_timing).collect();
     for _ in 0..rounds {
         for timing in &mut timings {
-            timing.repeat(&workload.text, &mut list);
+            timing.repeat(workload, &mut list);
         }
     }
     timings.iter().map(|timing| timing.least).collect()
@@ -97,8 +96,10 @@ fn print_times(workload: &Workload, answer: Answer, times: &[f64]) {
     let nanoseconds = |time: f64| format!("{time:.0}");
     let ratio = |other: f64| format!("{:.2}", times[0] / other);
     cells.extend([nanoseconds(times[0]), nanoseconds(times[1]), ratio(times[1])]);
-    if let Some(&old) = times.get(2) {
-        cells.extend([nanoseconds(old), ratio(old)]);
+    match times.get(2) {
+        Some(&old) => cells.extend([nanoseconds(old), ratio(old)]),
+        None if NEW_AND_OLD.is_some() => cells.push("differs".to_string()),
+        None => {}
     }
     print_row(workload.name, &cells);
 }
@@ -128,9 +129,9 @@ struct Timing {
 }
 
 impl Timing {
-    fn new(expander: Expander, text: &[u8], list: &mut [i32]) -> Timing {
+    fn new(expander: Expander, workload: &Workload, list: &mut [i32]) -> Timing {
         let mut calls = 1;
-        while time(expander, text, list, calls) < SHORTEST {
+        while time(expander, workload, list, calls) < SHORTEST {
             calls *= 2;
         }
         Timing {
@@ -140,19 +141,19 @@ impl Timing {
         }
     }
 
-    fn repeat(&mut self, text: &[u8], list: &mut [i32]) {
-        let taken = time(self.expander, text, list, self.calls);
+    fn repeat(&mut self, workload: &Workload, list: &mut [i32]) {
+        let taken = time(self.expander, workload, list, self.calls);
         let of_one = taken.as_nanos() as f64 / f64::from(self.calls);
         self.least = self.least.min(of_one);
     }
 }
 
 /// The processor time that so many calls take.
-fn time(expander: Expander, text: &[u8], list: &mut [i32], calls: u32) -> Duration {
-    let expand = expander.expand;
+fn time(expander: Expander, workload: &Workload, list: &mut [i32], calls: u32) -> Duration {
+    let (expand, setting, text) = (expander.expand, workload.setting.number(), &workload.text);
     let start = thread_time();
     for _ in 0..calls {
-        black_box(expand(black_box(text), black_box(&mut *list)));
+        black_box(expand(setting, black_box(text), black_box(&mut *list)));
     }
     thread_time() - start
 }

@@ -1,7 +1,7 @@
 //! Compares the proved library with the plain expander on texts made by numbers.
 //!
-//! `compare [COUNT [SEED]]` tries texts SEED to SEED + COUNT - 1. It ends with 1 at a difference, with 2 if its arguments
-//! are wrong.
+//! `compare [COUNT [SEED]]` tries texts SEED to SEED + COUNT - 1, each at both decimal point settings. It ends with 1 at a
+//! difference, with 2 if its arguments are wrong.
 
 use std::env;
 use std::process::ExitCode;
@@ -9,7 +9,8 @@ use std::process::ExitCode;
 use compare::arguments::seeds;
 use compare::pair::{Answer, Difference, Pair};
 use compare::random::Random;
-use compare::samples::sample;
+use compare::samples::{sample, Sample};
+use compare::tally::Tally;
 
 /// The numbers of the usual list, with places for 4,096 hits.
 const USUAL_LENGTH: usize = 16_384;
@@ -17,13 +18,9 @@ const USUAL_LENGTH: usize = 16_384;
 /// The numbers of a list for texts that fill the usual one.
 const LONG_LENGTH: usize = 100_003;
 
-/// How often each answer was met.
-#[derive(Default)]
-struct Tally {
-    texts: [u64; 18],
-    texts_in_bodies: [u64; 18],
-    calls: [u64; 18],
-}
+/// The settings by number, and other numbers, which count as 1.
+const SETTINGS: [i32; 2] = [1, 0];
+const OTHER_NUMBERS: [i32; 4] = [-1, 2, i32::MIN, i32::MAX];
 
 fn main() -> ExitCode {
     let words: Vec<_> = env::args().skip(1).collect();
@@ -47,14 +44,29 @@ fn main() -> ExitCode {
     ExitCode::SUCCESS
 }
 
-/// Compares the answers for one text and several lengths of the list.
+/// Compares the answers for one text at both settings, and now and then at another number.
 fn try_text(pair: &mut Pair, tally: &mut Tally, seed: u64) -> Result<(), Difference> {
-    let text = sample(seed);
-    let answer = pair.compare(&text, USUAL_LENGTH)?;
-    tally.add_text(&text, answer);
+    let sample = sample(seed);
+    for setting in SETTINGS {
+        try_lists(pair, tally, seed, &sample, setting)?;
+    }
+    let mut random = Random::new(!seed ^ 0x5e77);
+    if random.one_in(4) {
+        let number = random.pick(&OTHER_NUMBERS);
+        let answer = pair.compare(number, &sample.text, USUAL_LENGTH)?;
+        tally.add_call(&sample, number, answer);
+    }
+    Ok(())
+}
+
+/// Compares the answers for one text at a setting and several lengths of the list.
+fn try_lists(pair: &mut Pair, tally: &mut Tally, seed: u64, sample: &Sample, setting: i32) -> Result<(), Difference> {
+    let answer = pair.compare(setting, &sample.text, USUAL_LENGTH)?;
+    tally.add_text(sample, setting, answer);
+    tally.add_call(sample, setting, answer);
     for length in other_lengths(seed, answer) {
-        let answer = pair.compare(&text, length)?;
-        tally.calls[usize::from(answer.number)] += 1;
+        let answer = pair.compare(setting, &sample.text, length)?;
+        tally.add_call(sample, setting, answer);
     }
     Ok(())
 }
@@ -74,38 +86,4 @@ fn other_lengths(seed: u64, answer: Answer) -> Vec<usize> {
         17 => vec![0, LONG_LENGTH],
         _ => vec![0, 3, 7, random.below(40), random.below(400)],
     }
-}
-
-impl Tally {
-    /// Notes the answer to a text with the usual list.
-    fn add_text(&mut self, text: &[u8], answer: Answer) {
-        let number = usize::from(answer.number);
-        self.texts[number] += 1;
-        self.calls[number] += 1;
-        if is_in_body(text, answer.line) {
-            self.texts_in_bodies[number] += 1;
-        }
-    }
-
-    fn print(&self) {
-        println!("{:>8} | {:>9} | {:>9} | {:>9}", "answer", "texts", "in bodies", "calls");
-        for number in 0..18 {
-            let name = match number {
-                0 => "accepted".to_string(),
-                _ => number.to_string(),
-            };
-            let (texts, calls) = (self.texts[number], self.calls[number]);
-            let in_bodies = self.texts_in_bodies[number];
-            println!("{name:>8} | {texts:>9} | {in_bodies:>9} | {calls:>9}");
-        }
-        let (texts, calls) = (self.texts.iter().sum::<u64>(), self.calls.iter().sum::<u64>());
-        println!("{texts} texts, {calls} calls of each");
-    }
-}
-
-/// Whether a line stands between a U line and the next U or V line.
-fn is_in_body(text: &[u8], line: u64) -> bool {
-    let before = text.split(|&byte| byte == b'\n').take(line.saturating_sub(1) as usize);
-    let firsts = before.filter_map(|line| line.iter().find(|&&byte| byte != b' '));
-    firsts.filter(|&&byte| byte == b'U' || byte == b'V').last() == Some(&b'U')
 }

@@ -1,7 +1,8 @@
 //! Runs golden cases through both expanders.
 //!
 //! `vectors [FOLDER]` takes a folder like `crates/cases`, which is the one if nothing is said: `stdout` has for each case
-//! a line with the name of a text in `data` and the length of the list, and then what the program `hitlist` prints.
+//! a line with the name of a text in `data`, the number of the setting and the length of the list, and then the listing,
+//! as the program `hitlist` prints it.
 
 use std::fmt::Write;
 use std::path::{Path, PathBuf};
@@ -13,9 +14,10 @@ use compare::pair::{library, plain, Answer};
 /// The golden cases of the repository.
 const CASES: &str = concat!(env!("CARGO_MANIFEST_DIR"), "/../../../crates/cases");
 
-/// A case: the text's name, the length of the list, and the lines of the listing.
+/// A case: the text's name, the number of the setting, the length of the list, and the lines of the listing.
 struct Case {
     name: String,
+    setting: i32,
     length: usize,
     listing: String,
 }
@@ -49,7 +51,7 @@ fn run(folder: &Path) -> Result<(usize, usize), String> {
         let path = folder.join("data").join(&case.name);
         let text = fs::read(&path).map_err(|error| format!("{}: {error}", path.display()))?;
         if !is_right(case, &text) {
-            println!("{} {} differs", case.name, case.length);
+            println!("{} {} {} differs", case.name, case.setting, case.length);
             wrong += 1;
         }
     }
@@ -59,8 +61,9 @@ fn run(folder: &Path) -> Result<(usize, usize), String> {
 
 /// The cases of stored listings, of which there is at least one.
 fn cases(listings: &str) -> Result<Vec<Case>, String> {
-    // an argument that is no length has a line without a listing
-    let mut lines = listings.lines().filter(|line| !line.ends_with(" NO LENGTH"));
+    // an argument that is no setting or no length has a line without a listing
+    let is_case = |line: &&str| !line.ends_with(" NO SETTING") && !line.ends_with(" NO LENGTH");
+    let mut lines = listings.lines().filter(is_case);
     let mut cases = Vec::new();
     while let Some(title) = lines.next() {
         cases.push(case(title, &mut lines).ok_or(format!("no case: {title:?}"))?);
@@ -73,7 +76,10 @@ fn cases(listings: &str) -> Result<Vec<Case>, String> {
 
 /// The case of a title and the lines behind it.
 fn case<'a>(title: &str, lines: &mut impl Iterator<Item = &'a str>) -> Option<Case> {
-    let (name, length) = title.split_once(' ')?;
+    let words: Vec<&str> = title.split(' ').collect();
+    let [name, setting, length] = words[..] else {
+        return None;
+    };
     let head = lines.next()?;
     let count = match head.strip_prefix("HITS ") {
         Some(count) => count.parse().ok()?,
@@ -85,6 +91,7 @@ fn case<'a>(title: &str, lines: &mut impl Iterator<Item = &'a str>) -> Option<Ca
     }
     Some(Case {
         name: name.to_string(),
+        setting: setting.parse().ok()?,
         length: length.parse().ok()?,
         listing,
     })
@@ -93,7 +100,7 @@ fn case<'a>(title: &str, lines: &mut impl Iterator<Item = &'a str>) -> Option<Ca
 fn is_right(case: &Case, text: &[u8]) -> bool {
     [library, plain].iter().all(|expand| {
         let mut list = vec![-1; case.length];
-        let answer = expand(text, &mut list);
+        let answer = expand(case.setting, text, &mut list);
         hit_list(answer, &list) == case.listing
     })
 }

@@ -1,0 +1,125 @@
+//! How often each answer was met in a comparison.
+
+use std::fmt::Display;
+
+use crate::pair::Answer;
+use crate::samples::Sample;
+
+/// The setting that a text is written for, and the one at which it is expanded.
+const COLUMNS: [(i32, i32); 4] = [(1, 1), (0, 0), (1, 0), (0, 1)];
+
+/// How often an answer was met.
+#[derive(Clone, Copy, Default)]
+struct Row {
+    texts: [u64; COLUMNS.len()],
+    texts_in_bodies: u64,
+    calls: u64,
+}
+
+/// The answers of a comparison.
+#[derive(Default)]
+pub struct Tally {
+    answers: [Row; 18],
+    /// Those by 6 that have a length or an angle past the limit of setting 0 in their line.
+    past_limit: Row,
+    all: Row,
+}
+
+impl Tally {
+    /// Notes the answer to a text at setting 0 or 1; its call is not counted.
+    pub fn add_text(&mut self, sample: &Sample, setting: i32, answer: Answer) {
+        let settings = (sample.setting.number(), setting);
+        let is_in_body = is_in_body(&sample.text, answer.line);
+        for row in self.rows(sample, setting, answer) {
+            for (count, column) in row.texts.iter_mut().zip(COLUMNS) {
+                *count += u64::from(column == settings);
+            }
+            row.texts_in_bodies += u64::from(is_in_body);
+        }
+    }
+
+    /// Notes a call of both expanders.
+    pub fn add_call(&mut self, sample: &Sample, setting: i32, answer: Answer) {
+        for row in self.rows(sample, setting, answer) {
+            row.calls += 1;
+        }
+    }
+
+    /// The rows that an answer counts in.
+    fn rows(&mut self, sample: &Sample, setting: i32, answer: Answer) -> impl Iterator<Item = &mut Row> {
+        let is_past_limit = (setting, answer.number) == (0, 6) && has_long_number(&sample.text, answer.line);
+        let past_limit = is_past_limit.then_some(&mut self.past_limit);
+        let answer = &mut self.answers[usize::from(answer.number)];
+        [answer, &mut self.all].into_iter().chain(past_limit)
+    }
+
+    pub fn print(&self) {
+        println!("Texts by the setting that they are written for and the one at which they are expanded;");
+        println!("limit: those by 6 that have a length or an angle past the limit of setting 0.");
+        let titles = COLUMNS.map(|(written, expanded)| format!("{written} at {expanded}"));
+        print_cells("answer", titles, ["in bodies", "calls"]);
+        for (number, row) in self.answers.iter().enumerate() {
+            match number {
+                0 => row.print("accepted"),
+                _ => row.print(&number.to_string()),
+            }
+            if number == 6 {
+                self.past_limit.print("limit");
+            }
+        }
+        self.all.print("all");
+    }
+}
+
+impl Row {
+    fn print(&self, name: &str) {
+        print_cells(name, self.texts, [self.texts_in_bodies, self.calls]);
+    }
+}
+
+fn print_cells<T: Display, U: Display>(name: &str, texts: [T; COLUMNS.len()], others: [U; 2]) {
+    let texts = texts.map(|cell| format!(" | {cell:>9}")).concat();
+    let others = others.map(|cell| format!(" | {cell:>9}")).concat();
+    println!("{name:>8}{texts}{others}");
+}
+
+/// Whether a line stands between a U line and the next U or V line.
+fn is_in_body(text: &[u8], line: u64) -> bool {
+    let before = text.split(|&byte| byte == b'\n').take(line.saturating_sub(1) as usize);
+    let firsts = before.filter_map(|line| line.iter().find(|&&byte| byte != b' '));
+    firsts.filter(|&&byte| byte == b'U' || byte == b'V').last() == Some(&b'U')
+}
+
+/// Whether a line has X, Y, I, J, D or, in G29, P with more than four digits, zeros in front not counted.
+fn has_long_number(text: &[u8], line: u64) -> bool {
+    let mut lines = text.split(|&byte| byte == b'\n');
+    let line = lines.nth(line.saturating_sub(1) as usize).unwrap_or_default();
+    let bytes: Vec<u8> = line.iter().copied().filter(|&byte| byte != b' ').collect();
+    let digits = |place: usize| {
+        let number = bytes[place + 1..].iter().skip_while(|byte| b"+-0".contains(byte));
+        number.take_while(|byte| byte.is_ascii_digit())
+    };
+    let is_g29 = (0..bytes.len()).any(|place| bytes[place] == b'G' && digits(place).eq(b"29"));
+    let letters: &[u8] = if is_g29 { b"XYIJDP" } else { b"XYIJD" };
+    (0..bytes.len()).any(|place| letters.contains(&bytes[place]) && digits(place).count() > 4)
+}
+
+#[cfg(test)]
+mod tests {
+    use super::*;
+
+    #[test]
+    fn lines_in_bodies_are_told() {
+        let text = b"G92X1Y1\n U60\nM8\nV60\nM8";
+        let lines: Vec<_> = (1..=5).filter(|&line| is_in_body(text, line)).collect();
+        assert_eq!(lines, [3, 4]);
+    }
+
+    #[test]
+    fn long_numbers_are_told() {
+        let text = b"X9999\nX1 0 0 0 0\nY-010000T2\nI009999\nN10000\nJ9999.99\nG98X1Y1D10000\n\
+            G29I1J0P10000K1\nP10000G90G029\nG29I1J0P9999K10000\nG36I1P10000J1K0";
+        let lines: Vec<_> = (1..=11).filter(|&line| has_long_number(text, line)).collect();
+        assert_eq!(lines, [2, 3, 7, 8, 9]);
+    }
+}
