@@ -1,9 +1,9 @@
 -- Laws of the integers: sums and products rearranged, sizes bounded, and the machine words that hold them.
 -- Assumes nothing.
-use mathlib.Core.Path.{_≡_, refl, ap}
+use mathlib.Core.Path.{_≡_, refl, sym, ap, ap₂, _∙_}
 use mathlib.Core.Bool.{Bool, true, false, cond}
-use Prim.Native.Nat.{ℕ, zero, suc, _+_, _-_, _*_, _^_, _≤_, _<_}
-use native.Mathlib.Nat.{le-trans, lt-of-le-of-lt, mul-le-mul}
+use Prim.Native.Nat.{ℕ, zero, suc, _+_, _-_, _*_, _/_, _%_, _^_, _≤_, _<_}
+use native.Mathlib.Nat.{le-trans, lt-of-le-of-lt, mul-le-mul, mod-lt, div-add-mod, div-le-self}
 use native.Mathlib.Omega.{arith}
 use lib.Dec.{ltb, lit<}
 use lib.IntN.{
@@ -21,16 +21,22 @@ use lib.IntN.{
   +ℤ-assoc,
   +ℤ-idl,
   +ℤ-idr,
+  +ℤ-comm,
+  +ℤ-invr,
   +ℤ-sucℤ,
   +ℤ-predℤ,
   zero-*ℤ,
   sucℤ-*ℤ,
   predℤ-*ℤ,
+  *ℤ-comm,
+  negℤ-negℤ,
+  negℤ-+ℤ,
 }
-use lib.Signed.{mag, natAbs-le}
+use lib.Signed.{mag, quotZ, remZ, natAbs-le}
 use mir.Syntax.{Width, w32, w64}
 use mir.Val.{SFits, hbits, toZ, ofZ}
 use mir.Facts.{toZ-ofZ, sfits-widen}
+use borrow.Author.Tests.{ltb-true, ltb-false, le-ltb}
 use Rattle.signed.specs.Signed.{withSign}
 
 -- ---- sums and products
@@ -56,6 +62,45 @@ add-mul a (pos zero) k = simp (+ℤ-idr, zero-*ℤ)
 add-mul a (pos (suc n)) k = add-mul-suc a (pos n) k (add-mul a (pos n) k)
 add-mul a (negsuc zero) k = add-mul-pred a (pos zero) k (simp (+ℤ-idr, zero-*ℤ))
 add-mul a (negsuc (suc n)) k = add-mul-pred a (negsuc n) k (add-mul a (negsuc n) k)
+
+-- a product by a whole number, of a product
+pub times-mul : (m : ℕ) (a b : ℤ) → (pos m *ℤ a) *ℤ b ≡ pos m *ℤ (a *ℤ b)
+times-mul zero a b = simp zero-*ℤ
+times-mul (suc m) a b =
+    ap (λ (z : ℤ). z *ℤ b) (sucℤ-*ℤ (pos m) a) ∙ add-mul (pos m *ℤ a) a b
+    ∙ ap (λ (z : ℤ). z +ℤ a *ℤ b) (times-mul m a b) ∙ sym (sucℤ-*ℤ (pos m) (a *ℤ b))
+
+-- and of a sum
+pub mul-add : (a b k : ℤ) → k *ℤ (a +ℤ b) ≡ k *ℤ a +ℤ k *ℤ b
+mul-add a b k = *ℤ-comm k (a +ℤ b) ∙ add-mul a b k ∙ ap₂ _+ℤ_ (*ℤ-comm a k) (*ℤ-comm b k)
+
+-- a product with the opposite of a number
+pub neg-mul : (a k : ℤ) → negℤ a *ℤ k ≡ negℤ (a *ℤ k)
+neg-mul (pos zero) k = simp zero-*ℤ
+neg-mul (pos (suc n)) (pos k) = refl
+neg-mul (pos (suc n)) (negsuc k) = sym (negℤ-negℤ (pos (suc n * suc k)))
+neg-mul (negsuc n) (pos k) = sym (negℤ-negℤ (pos (suc n * k)))
+neg-mul (negsuc n) (negsuc k) = refl
+
+pub mul-neg : (k a : ℤ) → k *ℤ negℤ a ≡ negℤ (k *ℤ a)
+mul-neg k a = *ℤ-comm k (negℤ a) ∙ neg-mul a k ∙ ap negℤ (*ℤ-comm a k)
+
+-- two sums, summed the other way
+pub add-pairs : (a b c d : ℤ) → (a +ℤ b) +ℤ (c +ℤ d) ≡ (a +ℤ c) +ℤ (b +ℤ d)
+add-pairs a b c d =
+    +ℤ-assoc a b (c +ℤ d) ∙ ap (λ (z : ℤ). a +ℤ z) (sym (+ℤ-assoc b c d) ∙ ap (λ (z : ℤ). z +ℤ d) (+ℤ-comm b c) ∙ +ℤ-assoc c b d)
+    ∙ sym (+ℤ-assoc a c (b +ℤ d))
+
+-- the difference of a number and a smaller one
+pub minus-less : (a b : ℕ) → b ≤ a → pos a -ℤ pos b ≡ pos (a - b)
+minus-less a zero h = let e : a + 0 ≡ a - 0 = omega arith in ap pos e
+minus-less a (suc b) h = simp (le-ltb a (suc b) h)
+
+-- a sum with c taken off, taken off its first summand
+pub minus-sum : (a b c : ℤ) → a -ℤ (a +ℤ b -ℤ c) ≡ c -ℤ b
+minus-sum a b c =
+    ap (λ (z : ℤ). a +ℤ z) (negℤ-+ℤ (a +ℤ b) (negℤ c) ∙ ap₂ _+ℤ_ (negℤ-+ℤ a b) (negℤ-negℤ c) ∙ +ℤ-assoc (negℤ a) (negℤ b) c)
+    ∙ sym (+ℤ-assoc a (negℤ a) (negℤ b +ℤ c)) ∙ ap (λ (z : ℤ). z +ℤ (negℤ b +ℤ c)) (+ℤ-invr a) ∙ +ℤ-idl (negℤ b +ℤ c) ∙ +ℤ-comm (negℤ b) c
 
 -- ---- sizes
 
@@ -85,6 +130,15 @@ abs-+ℤ (pos a) (negsuc b) = abs-difference a b
 abs-+ℤ (negsuc a) (pos b) = omega (arith, abs-difference b a)
 abs-+ℤ (negsuc a) (negsuc b) = omega arith
 
+-- a difference is no larger than what each exceeds the other by
+pub abs-minus : (a b n : ℕ) → a ≤ b + n → b ≤ a + n → natAbs (pos a -ℤ pos b) ≤ n
+abs-minus a zero n h k = omega arith
+abs-minus a (suc b) n h k = go (ltb a (suc b)) refl
+  where
+    go : (t : Bool) → ltb a (suc b) ≡ t → natAbs (cond t (negsuc (suc b - suc a)) (pos (a - suc b))) ≤ n
+    go true e = omega (arith, ltb-true a (suc b) e)
+    go false e = omega (arith, ltb-false a (suc b) e)
+
 -- a sum is no larger than the bounds of its summands together
 pub abs-add : (a b : ℤ) (m n : ℕ) → natAbs a ≤ m → natAbs b ≤ n → natAbs (a +ℤ b) ≤ m + n
 abs-add a b m n h k = omega (arith, abs-+ℤ a b)
@@ -99,6 +153,26 @@ abs-*ℤ (negsuc a) (negsuc b) = refl
 -- a product is no larger than the product of its factors' bounds
 pub abs-mul : (a b : ℤ) (m n : ℕ) → natAbs a ≤ m → natAbs b ≤ n → natAbs (a *ℤ b) ≤ m * n
 abs-mul a b m n h k = rw (abs-*ℤ a b) (mul-le-mul h k)
+
+-- ---- quotients
+
+-- a number is its quotient times the divisor, and the rest
+pub quotient-rest : (z : ℤ) (m : ℕ) → pos m *ℤ quotZ z (pos m) +ℤ remZ z (pos m) ≡ z
+quotient-rest (pos a) m = ap pos (div-add-mod a m)
+quotient-rest (negsuc a) m =
+    ap (λ (z : ℤ). z +ℤ negℤ (pos (suc a % m))) (mul-neg (pos m) (pos (suc a / m)))
+    ∙ sym (negℤ-+ℤ (pos (m * (suc a / m))) (pos (suc a % m)))
+    ∙ ap (λ (n : ℕ). negℤ (pos n)) (div-add-mod (suc a) m)
+
+-- the rest is below the divisor
+pub rest-small : (z : ℤ) (m : ℕ) → 0 < m → natAbs (remZ z (pos m)) < m
+rest-small (pos a) m h = mod-lt a h
+rest-small (negsuc a) m h = rw (abs-neg (pos (suc a % m))) (mod-lt (suc a) h)
+
+-- the size of the quotient
+pub quotient-size : (z : ℤ) (m : ℕ) → natAbs (quotZ z (pos m)) ≡ natAbs z / m
+quotient-size (pos a) m = refl
+quotient-size (negsuc a) m = abs-neg (pos (suc a / m))
 
 -- ---- machine words
 
@@ -143,6 +217,15 @@ product-fits a b f g = fits-abs w64 (a *ℤ b) 4611686018427387904 (abs-product 
 -- a count of 16 bits fits 32, signed
 pub count-fits : (n : ℕ) → n < 65536 → SFits w32 (pos n)
 count-fits n h = record { sfits = omega arith }
+
+-- a quotient fits where the number does
+pub mag-quotient : (z : ℤ) (m : ℕ) → mag (quotZ z (pos m)) ≤ mag z
+mag-quotient (pos a) m = div-le-self a m
+mag-quotient (negsuc a) m = go (suc a / m) (div-le-self (suc a) m)
+  where
+    go : (q : ℕ) → q ≤ suc a → mag (negℤ (pos q)) ≤ a
+    go zero h = omega arith
+    go (suc q) h = omega arith
 
 -- a call's result, read back from the word that holds it: `read-back w64 (c .f .result) (c .f .ok)`
 pub read-back : (w : Width) (a : ℤ) → mag a < 2 ^ hbits w → toZ w (ofZ w a) ≡ a

@@ -2,11 +2,11 @@
 -- Assumes nothing.
 use mathlib.Core.Path.{_≡_, refl, sym, ap, _∙_}
 use mathlib.Core.Bool.{Bool, true, false, cond}
-use Prim.Native.Nat.{ℕ, zero, suc, _+_, _-_, _/_, _%_, _<_, _≤_}
+use Prim.Native.Nat.{ℕ, zero, suc, _+_, _-_, _%_, _<_, _≤_}
 use native.Mathlib.Omega.{arith}
 use lib.Dec.{leb, ltb}
 use lib.IntN.{ℤ, pos, negsuc, negℤ, subℕ, _+ℤ_, _-ℤ_}
-use lib.Signed.{mag, ltZ, quotZ, remZ}
+use lib.Signed.{ltZ, remZ}
 use borrow.Author.Tests.{leb-true, leb-false, ltb-true, ltb-false, le-leb, lt-leb, le-ltb}
 use Rattle.sine.specs.Sine.{turn, acute, turnSine, sine, cosine}
 
@@ -83,15 +83,6 @@ complement-high t h k =
     omega (arith, turn-complement (pos t), e)
 
 -- ---- division by a full turn; the remainder has the angle's sign
-
--- the number of whole turns is no larger than the angle
-pub turns-mag : (a : ℤ) → mag (quotZ a (pos 36000)) ≤ mag a
-turns-mag (pos n) = omega arith
-turns-mag (negsuc n) = go (suc n / 36000) refl
-  where
-    go : (q : ℕ) → q ≡ suc n / 36000 → mag (negℤ (pos q)) ≤ n
-    go zero e = omega arith
-    go (suc q) e = omega arith
 
 -- a remainder below zero lacks a turn
 pub turn-below : (a : ℤ) → ltZ (remZ a (pos 36000)) (pos 0) ≡ true → remZ a (pos 36000) +ℤ pos 36000 ≡ pos (turn a)

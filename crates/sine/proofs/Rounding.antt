@@ -1,14 +1,26 @@
--- Laws of rounding to the nearest, by 10^9.
+-- Laws of rounding to the nearest, by 10^9 and by parts of it.
 -- Assumes nothing.
-use mathlib.Core.Path.{_≡_}
+use mathlib.Core.Path.{_≡_, sym, ap, _∙_}
 use mathlib.Core.Bool.{true, false}
-use Prim.Native.Nat.{ℕ, _*_, _≤_}
+use Prim.Native.Nat.{ℕ, _+_, _*_, _/_, _≤_, _<_}
+use native.Mathlib.Nat.{mul-div-mul-left, div-div-eq-div-mul, add-mul-div-left}
 use native.Mathlib.Omega.{arith}
 use lib.IntN.{ℤ, pos, negℤ, natAbs, _*ℤ_}
 use lib.Signed.{ltZ}
 use Rattle.signed.proofs.Integers.{abs-withSign, abs-mul}
 use Rattle.sine.specs.Series.{nearest, one}
 use Rattle.sine.specs.Sine.{rounded, offset}
+
+-- parts of a unit do not matter: one is even, so that no half lies between two whole units
+pub nearest-parts : (a m : ℕ) → 0 < m → nearest a (m * one) ≡ nearest (a / m) one
+nearest-parts a m some =
+    let halved : 2 * a + m * one ≡ 2 * (a + m * 500000000) = omega arith in
+    let whole : (a / m + 500000000) / one ≡ nearest (a / m) one = omega arith in
+    ap (λ (n : ℕ). n / (2 * (m * one))) halved
+    ∙ mul-div-mul-left (a + m * 500000000) (m * one) (omega arith)
+    ∙ sym (div-div-eq-div-mul (a + m * 500000000) m one)
+    ∙ ap (λ (n : ℕ). n / one) (add-mul-div-left a 500000000 some)
+    ∙ whole
 
 -- below zero the opposite of the rounded size
 pub rounded-below : (z : ℤ) → ltZ z (pos 0) ≡ true → rounded z one ≡ negℤ (pos (nearest (natAbs z) one))

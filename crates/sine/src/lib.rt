@@ -49,7 +49,7 @@ fn nearest(n: u64) -> u64
 }
 
 // The same for a number with a sign, halves away from zero.
-fn rounded(z: i64) -> i64
+pub fn rounded(z: i64) -> i64
     requires { ⌜ natAbs z ≤ 9000000000000000000 ⌝ }
     ensures { λ r. ⌜ r ≡ rounded z one ⌝ }
 {
@@ -102,7 +102,7 @@ fn quadrant_sine(a: u32, degrees: &[u32; 91], sines: &[u32; 100], cosines: &[u32
 }
 
 // An angle reduced to a full turn.
-fn turn(angle: i64) -> u32
+pub fn turn(angle: i64) -> u32
     ensures { λ r. ⌜ r ≡ turn angle ⌝ }
 {
     let rest = angle % 36000;
@@ -161,6 +161,16 @@ pub fn direction_of(
     let c = turn_sine(complement(t), degrees, sines, cosines);
     let s = turn_sine(t, degrees, sines, cosines);
     Direction { cosine: c, sine: s }
+}
+
+// Cosine and sine of one angle, with tables of its own.
+pub fn direction_at(angle: i32) -> Direction
+    ensures { λ r. ⌜ r ≡ directionOf angle ⌝ }
+{
+    let degrees = degree_sines();
+    let sines = hundredth_sines();
+    let cosines = hundredth_cosines();
+    direction_of(signed::widen(angle), &degrees, &sines, &cosines)
 }
 
 // Where a distance leads from a start along an axis, by the sine (or cosine) of its angle to it.

@@ -9,13 +9,14 @@ use mir.Syntax.{w32, w64}
 use mir.Val.{Fits, SFits}
 use mir.Facts.{toZ-ofZ}
 use Rattle.sine.specs.Sine.{turn}
-use Rattle.sine.proofs.Angles.{turn-small, turns-mag, turn-below, turn-above}
+use Rattle.signed.proofs.Integers.{mag-quotient}
+use Rattle.sine.proofs.Angles.{turn-small, turn-below, turn-above}
 use Rattle.sine.proofs.turn.Statement.{statement}
 use Rattle.sine.proofs.turn.Tie as tie
 
 module _ (c : tie.Start) where
   turns-fit : SFits w64 (quotZ (c .args .angle) (pos 36000))
-  turns-fit = record { sfits = lt-of-le-of-lt (turns-mag (c .args .angle)) (c .fits .angle .sfits) }
+  turns-fit = record { sfits = lt-of-le-of-lt (mag-quotient (c .args .angle) 36000) (c .fits .angle .sfits) }
 
   rest-fits : SFits w64 (remZ (c .args .angle) (pos 36000))
   rest-fits = record { sfits = lt-of-le-of-lt (mag-rem (c .args .angle) (pos 36000)) (c .fits .angle .sfits) }
