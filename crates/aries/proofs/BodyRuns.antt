@@ -14,7 +14,7 @@ use Rattle.aries.specs.declared.point.Point.{Point}
 use Rattle.aries.specs.declared.block.Axis.{Axis}
 use Rattle.aries.specs.declared.block.Axes.{Axes}
 use Rattle.aries.specs.declared.block.Pattern.{Pattern}
-use Rattle.aries.specs.declared.block.Pattern.the-variants.{Line, Arc, Circle, Grid}
+use Rattle.aries.specs.declared.block.Pattern.the-variants.{Line, Arc, Circle, Grid, Shear}
 use Rattle.aries.specs.declared.block.Direct.{Direct}
 use Rattle.aries.specs.declared.block.Direct.the-variants.{Lone, Punch, Move, PatternOrigin, RunPattern, Recall, Nibble, Idle}
 use Rattle.aries.specs.declared.block.Block.{Block}
@@ -36,7 +36,7 @@ use Rattle.aries.specs.Blocks.{decode}
 use Rattle.aries.specs.Hits.{Made, noHit, mapAfter}
 use Rattle.aries.specs.Judging.{Judging, room, judged, near}
 use Rattle.aries.specs.Moves.{_⊕_, movedTo, waitingFor, inMode, choosing, remembering, measuring, dropping, axisTarget, target, withState, hitOf, punch, position, move, setPatternOrigin}
-use Rattle.aries.specs.Patterns.{hitOffset, hitCount, reachIsNear, punches, startAt, startOf, ending, pattern, runPattern, emptyMemory, recalled, recall}
+use Rattle.aries.specs.Patterns.{hitOffset, hitCount, reachIsNear, shearIsFit, punches, startAt, startOf, ending, pattern, runPattern, emptyMemory, recalled, recall}
 use Rattle.aries.specs.Macros.{Body, Bodies, Calls, carryDirect, carry, isCounted, mayCome, begun, begin, runBlock, runLine, runLines, call, runBody}
 use Rattle.aries.specs.CopyRuns.{bytesOf}
 use Rattle.aries.proofs.Outcomes.{>>=-assoc}
@@ -161,13 +161,15 @@ module _ {E : Type 0} (j : Judging) (bounds : Bool) (v : Point) (places : ℕ) (
     ending-follows (Arc radius angle step count) start r = follows-map (λ s. s) (λ s. s) r (λ s. refl)
     ending-follows (Circle radius angle clockwise count) start r = follows-map (λ s. movedTo s (start ⊕ v)) (λ s. movedTo s start) r (λ s. refl)
     ending-follows (Grid vertical pitch steps) start r = follows-map (λ s. s) (λ s. s) r (λ s. refl)
+    ending-follows (Shear angle lengths) start r = follows-map (λ s. movedTo s (start ⊕ v)) (λ s. movedTo s start) r (λ s. refl)
 
     pattern-follows : (p : Pattern) → pattern j (moved f) line p beside pattern free f line′ p
     unfolding pattern
     pattern-follows p s n n′ =
         rw (start-moves v (s .waiting .origin) (s .current))
+        (follows-need 18 line line′ (alike {t = shearIsFit p})
         (follows-need 15 line line′ (w .reach (reachIsNear p))
-        (ending-follows p (startOf s) (punches-follow p (startOf s) (hitCount p) 0 (movedTo (dropping s) (startOf s)) n n′)))
+        (ending-follows p (startOf s) (punches-follow p (startOf s) (hitCount p) 0 (movedTo (dropping s) (startOf s)) n n′))))
 
     runPattern-follows : (p : Pattern) (t a : ℕ) → runPattern j (moved f) line p t a beside runPattern free f line′ p t a
     unfolding runPattern

@@ -27,6 +27,8 @@ pub mod Sound
 pub mod Refusals
 -- What is proved of settings.
 pub mod Settings
+-- What is proved of G66.
+pub mod Shear
 -- Laws that the functions' proofs cite.
 pub mod Advanced
 pub mod Carried

@@ -1,4 +1,4 @@
--- Demand 1, of refusals: past 1 each has a number from 2 to 17 and the line of a block that is carried out (`Sound`). Of the
+-- Demand 1, of refusals: past 1 each has a number from 2 to 18 and the line of a block that is carried out (`Sound`). Of the
 -- blocks of bodies too that is a line of the text: wherever a program comes, all that is stored lies within its lines.
 use mathlib.Core.Path.{_≡_, refl, sym, ap, _∙_, subst}
 use mathlib.Core.Bool.{Bool, true, false, true≢false, cond, _&&_}
@@ -264,7 +264,7 @@ module _ (text : List ℕ) (x : Out (List Hit)) where
       record { numbered = (omega arith, omega arith); lineless = (λ _. number-is, λ _. line-is); lined = λ other. absurd (other number-is) }
   refusal-of true number line k e =
       let a = subst (Answered (length (lines text)) Any) e (k refl .answered) in
-      let n = within-bounds 2 17 number (a .0) in
+      let n = within-bounds 2 18 number (a .0) in
       let l = a .1 in
       record {
         numbered = (omega arith, n .1);

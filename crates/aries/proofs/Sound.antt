@@ -1,4 +1,4 @@
--- Past 1, what is refused has a number from 2 to 17 and a line of the text: one law a definition, from a hit up to the copies of
+-- Past 1, what is refused has a number from 2 to 18 and a line of the text: one law a definition, from a hit up to the copies of
 -- a part, where all that is stored lies within the lines of the text.
 use mathlib.Core.Path.{_≡_, refl}
 use mathlib.Core.Bool.{Bool, true, false, cond, _&&_}
@@ -41,7 +41,7 @@ use Rattle.aries.specs.Hits.{Made, adding, andThen, mapAfter}
 use Rattle.aries.specs.Judging.{Judging, room, judged, near}
 use Rattle.aries.specs.Machine.{inRange}
 use Rattle.aries.specs.Moves.{_⊕_, target, hitting, punch, position, move, setPatternOrigin, choosing, dropping, remembering, withState}
-use Rattle.aries.specs.Patterns.{hitOffset, hitCount, reachIsNear, punches, startOf, starting, ending, pattern, runPattern, emptyMemory, recalled, recall}
+use Rattle.aries.specs.Patterns.{hitOffset, hitCount, reachIsNear, shearIsFit, punches, startOf, starting, ending, pattern, runPattern, emptyMemory, recalled, recall}
 use Rattle.aries.specs.Macros.{Body, Bodies, Calls, carryDirect, carry, mayCome, begunBy, begin, runBlock, runLine, runLines, call, mostCalls, runBody}
 use Rattle.aries.specs.Setup.{ordinaryFrame, frameAt}
 use Rattle.aries.specs.Layouts.{copyStart, copy, copyAll, copyCount, copyPlace, partOf, copyOver, copyPart}
@@ -55,7 +55,7 @@ pub record LineOf (last line : ℕ) : Type 0 where
 
 -- a number past 1
 abbrev pub isNumber : ℕ → Bool
-isNumber number = within 2 17 number
+isNumber number = within 2 18 number
 
 -- a refusal has such a number and such a line, a result a property
 abbrev pub Answered : {A : Type 0} → ℕ → (A → Type 0) → Out A → Type 0
@@ -168,8 +168,9 @@ module _ {last : ℕ} where
     pattern-sound : (p : Pattern) (g : Progress) → Sound last Any (pattern j f line p g)
     unfolding pattern
     pattern-sound p g =
-        sound-need (judged (j .bounds) (reachIsNear p)) 15 refl h
-        (sound-map (ending p (startOf (g .state))) _ (punches-sound p (startOf (g .state)) (hitCount p) 0 (starting g)) (λ a _. tt))
+        sound-need (shearIsFit p) 18 refl h
+        (sound-need (judged (j .bounds) (reachIsNear p)) 15 refl h
+        (sound-map (ending p (startOf (g .state))) _ (punches-sound p (startOf (g .state)) (hitCount p) 0 (starting g)) (λ a _. tt)))
 
     recalled-sound : (s : Stored) (g : Progress) → Sound last Any (recalled j f line s g)
     recalled-sound Empty g = sound-refused refl h

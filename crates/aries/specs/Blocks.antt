@@ -1,19 +1,22 @@
--- Blocks: what the words of a block ask for. (Document 01, "Moving and punching", "Patterns", "Macros and layouts"; refusals
--- 4, 5 and 6, each of which looks at the whole block before the next does.)
+-- Blocks: what the words of a block ask for. (Document 01, "Moving and punching", "Patterns", "Macros and layouts"; document 02,
+-- §2; refusals 4, 5 and 6, each of which looks at the whole block before the next does.)
 use mathlib.Core.Bool.{Bool, true, false, cond, _&&_}
 use mathlib.Core.List.{List}
 use mathlib.Core.Option.{Option, none, some}
 use Prim.Native.Nat.{ℕ, _+_}
 use lib.IntN.{ℤ, pos, natAbs}
 use lib.Signed.{ltZ}
+use Rattle.sine.specs.Sine.{turn}
 use Rattle.aries.specs.declared.point.Point.{Point}
 use Rattle.aries.specs.declared.block.Kind.{Kind}
-use Rattle.aries.specs.declared.block.Kind.the-variants.{G26, G28, G29, G36, G37, G50, G70, G72, G75, G76, G92, G93, G98, Position, Lone, LetterM, LetterB, LetterU, LetterV, LetterW, Unknown}
+use Rattle.aries.specs.declared.block.Kind.the-variants.{G26, G28, G29, G36, G37, G50, G70, G72, G75, G76, G92, G93, G98, Position, Lone, LetterM, LetterB, LetterU, LetterV, LetterW, Unknown, G66}
 use Rattle.aries.specs.declared.block.Axis.{Axis}
 use Rattle.aries.specs.declared.block.Axes.{Axes}
 use Rattle.aries.specs.declared.block.Steps.{Steps}
 use Rattle.aries.specs.declared.block.Pattern.{Pattern}
+use Rattle.aries.specs.declared.block.Shear.{Shear}
 use Rattle.aries.specs.declared.block.Pattern.the-variants.{Line, Arc, Circle, Grid}
+use Rattle.aries.specs.declared.block.Pattern.the-variants as pattern
 use Rattle.aries.specs.declared.block.Layout.{Layout}
 use Rattle.aries.specs.declared.block.Copies.{Copies}
 use Rattle.aries.specs.declared.block.Direct.{Direct}
@@ -92,6 +95,21 @@ circlePattern w = Circle (number w letterI) (number w letterJ) (ltZ (at w letter
 abbrev pub gridPattern : Bool → Letters → Pattern
 gridPattern vertical w = Grid vertical (record { x = number w letterI; y = number w letterJ }) (steps w)
 
+-- the lengths of G66; an absent Q equals P, an absent D is 0
+abbrev pub shear : Letters → Shear
+shear w =
+    record {
+      length = number w letterI;
+      along = number w letterP;
+      across = cond (has w letterQ) (number w letterQ) (number w letterP);
+      compensation = number w letterD;
+    }
+
+-- G66, in which P and Q are lengths; of its angle whole turns are dropped
+unfoldable pub shearPattern : Letters → Pattern
+unfolding turn
+shearPattern w = pattern.Shear (turn (number w letterJ)) (shear w)
+
 -- a pattern with its T and A
 abbrev pub patternBlock : Letters → Pattern → Block
 patternBlock w p = Block.Direct (direct.RunPattern p (count w letterT) (count w letterA))
@@ -102,11 +120,13 @@ mBlock n = Block.Direct (lookup mCodes n direct.Idle)
 
 -- the block of a kind (5 has refused the unknown kind)
 unfoldable pub blockOf : Letters → Kind → Block
+unfolding shearPattern
 blockOf w G26 = patternBlock w (circlePattern w)
 blockOf w G28 = patternBlock w (linePattern w)
 blockOf w G29 = patternBlock w (arcPattern w)
 blockOf w G36 = patternBlock w (gridPattern false w)
 blockOf w G37 = patternBlock w (gridPattern true w)
+blockOf w G66 = patternBlock w (shearPattern w)
 blockOf w G50 = Block.Outside outside.End
 blockOf w G70 = Block.Direct (direct.Move (axes w) (count w letterT))
 blockOf w G72 = Block.Direct (direct.PatternOrigin (axes w))

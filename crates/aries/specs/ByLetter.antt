@@ -8,7 +8,7 @@ use lib.IntN.{pos, natAbs}
 use lib.ListN.{getD, set, replicate}
 use Rattle.aries.specs.declared.word.Word.{Word}
 use Rattle.aries.specs.declared.block.Kind.{Kind}
-use Rattle.aries.specs.declared.block.Kind.the-variants.{G26, G28, G29, G36, G37, G50, G70, G72, G75, G76, G92, G93, G98}
+use Rattle.aries.specs.declared.block.Kind.the-variants.{G26, G28, G29, G36, G37, G50, G70, G72, G75, G76, G92, G93, G98, G66}
 use Rattle.aries.specs.declared.block.Direct.{Direct}
 use Rattle.aries.specs.declared.block.Direct.the-variants as direct
 use Rattle.aries.specs.declared.block.Measure.{Measure}
@@ -30,7 +30,7 @@ lookup (e ∷ es) n other = cond (eqb n (e .0)) (e .1) (lookup es n other)
 
 -- the codes of patterns
 abbrev pub patternCodes : List (ℕ × Kind)
-patternCodes = (26, G26) ∷ (28, G28) ∷ (29, G29) ∷ (36, G36) ∷ (37, G37) ∷ []
+patternCodes = (26, G26) ∷ (28, G28) ∷ (29, G29) ∷ (36, G36) ∷ (37, G37) ∷ (66, G66) ∷ []
 
 -- the base codes; every other one is unknown
 abbrev pub codes : List (ℕ × Kind)

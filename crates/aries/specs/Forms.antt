@@ -7,7 +7,7 @@ use Prim.Native.Nat.{ℕ}
 use Prim.Native.String.{String}
 use lib.Dec.{eqb}
 use Rattle.aries.specs.declared.block.Kind.{Kind}
-use Rattle.aries.specs.declared.block.Kind.the-variants.{G26, G28, G29, G36, G37, G50, G70, G72, G75, G76, G92, G93, G98, Position, Lone, LetterM, LetterB, LetterU, LetterV, LetterW, Unknown}
+use Rattle.aries.specs.declared.block.Kind.the-variants.{G26, G28, G29, G36, G37, G50, G70, G72, G75, G76, G92, G93, G98, Position, Lone, LetterM, LetterB, LetterU, LetterV, LetterW, Unknown, G66}
 use Rattle.aries.specs.declared.block.Measure.{Measure}
 use Rattle.aries.specs.declared.block.Measure.the-variants.{Unchanged, Absolute, Incremental}
 use Rattle.aries.specs.Letters.{letterA, letterB, letterG, letterM, letterN, letterU, letterV, letterW, letterX, letterY}
@@ -110,6 +110,7 @@ formOf G28 = form "IJK" "" "TA" anyOfBoth
 formOf G29 = form "IJPK" "" "TA" anyOfBoth
 formOf G36 = form "IPJK" "" "TA" anyOfBoth
 formOf G37 = form "IPJK" "" "TA" anyOfBoth
+formOf G66 = form "IJP" "" "QDTA" anyOfBoth
 formOf G50 = form "" "" "" neither
 formOf G70 = form "" "XY" "T" anyOfBoth
 formOf G72 = form "" "XY" "" anyOfBoth
@@ -171,6 +172,7 @@ kindFits w G28 = true
 kindFits w G29 = true
 kindFits w G36 = true
 kindFits w G37 = true
+kindFits w G66 = true
 kindFits w G50 = true
 kindFits w G70 = true
 kindFits w G72 = true

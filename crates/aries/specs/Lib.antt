@@ -15,6 +15,7 @@ pub mod Machine
 pub mod Hits
 pub mod Moves
 pub mod Lanes
+pub mod Shear
 pub mod Patterns
 pub mod Macros
 pub mod Setup
@@ -27,4 +28,5 @@ pub mod CopyBlocks
 pub mod CopyPairs
 pub mod Refusals
 pub mod Settings
+pub mod FewestSteps
 pub mod Plates

@@ -1,5 +1,5 @@
 -- Numbers: lengths and angles, whole numbers, and their ranges. (Document 01, "Text, words, units", "Patterns", "Macros and
--- layouts"; document 02, §1; refusal 6.)
+-- layouts"; document 02, §1 and §2; refusal 6.)
 use mathlib.Core.Bool.{Bool, true, not, cond, _&&_, _||_}
 use mathlib.Core.List.{List, [], _∷_}
 use Prim.Native.Nat.{ℕ}
@@ -11,7 +11,7 @@ use Rattle.aries.specs.declared.reader.Setting.{Setting}
 use Rattle.aries.specs.declared.reader.Setting.the-variants.{Hundredths, Millimetres}
 use Rattle.aries.specs.declared.word.Word.{Word}
 use Rattle.aries.specs.declared.block.Kind.{Kind}
-use Rattle.aries.specs.declared.block.Kind.the-variants.{G26, G28, G29, G36, G37, G50, G70, G72, G75, G76, G92, G93, G98, Position, Lone, LetterM, LetterB, LetterU, LetterV, LetterW, Unknown}
+use Rattle.aries.specs.declared.block.Kind.the-variants.{G26, G28, G29, G36, G37, G50, G70, G72, G75, G76, G92, G93, G98, Position, Lone, LetterM, LetterB, LetterU, LetterV, LetterW, Unknown, G66}
 use Rattle.aries.specs.Letters.{letterA, letterB, letterD, letterI, letterJ, letterK, letterN, letterP, letterQ, letterT, letterU, letterV, letterW, letterX, letterY, indexOf}
 use Rattle.aries.specs.Test.{within, every}
 use Rattle.aries.specs.Text.{bytes}
@@ -37,13 +37,15 @@ withValue v number = record { written = v .written; signed = v .signed; pointed 
 abbrev pub wordInHundredths : Setting → Word → Word
 wordInHundredths s v = withValue v (lengthOf s v)
 
--- the letters of a kind of block that are lengths or angles, by their use: P is an angle in G29 and counts elsewhere
+-- the letters of a kind of block that are lengths or angles, by their use: P is an angle in G29, a length in G66 and else a
+-- count; Q is a length in G66 alone
 abbrev pub lengthsOf : Kind → String
 lengthsOf G26 = "IJ"
 lengthsOf G28 = "IJ"
 lengthsOf G29 = "IJP"
 lengthsOf G36 = "IJ"
 lengthsOf G37 = "IJ"
+lengthsOf G66 = "IJPQD"
 lengthsOf G50 = ""
 lengthsOf G70 = "XY"
 lengthsOf G72 = "XY"
@@ -133,6 +135,7 @@ rangesOf G28 = (letterK, whole 1 patternMost) ∷ []
 rangesOf G29 = (letterI, aboveZero) ∷ (letterK, whole 1 patternMost) ∷ []
 rangesOf G36 = (letterP, gridSteps) ∷ (letterK, gridSteps) ∷ []
 rangesOf G37 = (letterP, gridSteps) ∷ (letterK, gridSteps) ∷ []
+rangesOf G66 = []
 rangesOf G50 = []
 rangesOf G70 = []
 rangesOf G72 = []

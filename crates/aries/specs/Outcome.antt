@@ -1,4 +1,4 @@
--- What carrying something out comes to: a result, or one of the seventeen refusals with its number and its line.
+-- What carrying something out comes to: a result, or a refusal with its number and its line.
 -- A `do` block goes on past each test that passes, so the refusals stand in it in their checking order.
 use mathlib.Core.Bool.{Bool, true, false}
 use mathlib.Core.Option.{Option, none, some}

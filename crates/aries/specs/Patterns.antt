@@ -1,4 +1,4 @@
--- Patterns: where their hits lie, and pattern memory. (Document 01, "Patterns"; refusals 10 and 15.)
+-- Patterns: where their hits lie, and pattern memory. (Document 01, "Patterns"; document 02, §2; refusals 10, 15 and 18.)
 use mathlib.Core.Bool.{Bool, true, false, cond, _&&_}
 use mathlib.Core.List.{List, [], _∷_}
 use Prim.Native.Nat.{ℕ, zero, suc, _+_, _-_, _*_}
@@ -9,7 +9,7 @@ use Rattle.sine.specs.Sine.{fullTurn, sine, cosine, offset}
 use Rattle.aries.specs.declared.point.Point.{Point}
 use Rattle.aries.specs.declared.block.Steps.{Steps}
 use Rattle.aries.specs.declared.block.Pattern.{Pattern}
-use Rattle.aries.specs.declared.block.Pattern.the-variants.{Line, Arc, Circle, Grid}
+use Rattle.aries.specs.declared.block.Pattern.the-variants.{Line, Arc, Circle, Grid, Shear}
 use Rattle.aries.specs.declared.state.Waiting.{Waiting}
 use Rattle.aries.specs.declared.state.Waiting.the-variants.{Unset, At}
 use Rattle.aries.specs.declared.state.Stored.{Stored}
@@ -22,10 +22,12 @@ use Rattle.aries.specs.Outcome.{Out, done, refused, _>>=_, need}
 use Rattle.aries.specs.Hits.{Made, noHit, andThen, mapAfter}
 use Rattle.aries.specs.Judging.{Judging, judged, isNear}
 use Rattle.aries.specs.Lanes.{lane, along}
+use Rattle.aries.specs.Shear.{isFit, steps, shearOffset}
 use Rattle.aries.specs.Moves.{pointAt, _⊕_, movedTo, dropping, choosing, remembering, withState, punch}
 
 -- ---- Where the hits lie: each is start plus offset; the offset is rounded, never the sum. The start is never punched by
--- the pattern: it is place 0 of a line and of a grid, whose hits count from place 1, and the centre of an arc or circle.
+-- the pattern: it is place 0 of a line and of a grid, whose hits count from place 1, the centre of an arc or circle,
+-- and where the edge of G66 begins.
 
 -- the offset at a distance and an angle
 unfoldable pub polar : ℤ → ℤ → Point
@@ -62,25 +64,38 @@ gridOffset vertical pitch steps m =
 
 -- the offset of hit k of a pattern, counted from 0
 unfoldable pub hitOffset : Pattern → ℕ → Point
-unfolding polar
+unfolding polar shearOffset
 hitOffset (Line i j n) k = lineOffset i j (suc k)
 hitOffset (Arc i j p n) k = arcOffset i j p k
 hitOffset (Circle i j clockwise n) k = circleOffset i j clockwise n k
 hitOffset (Grid vertical pitch steps) k = gridOffset vertical pitch steps (suc k)
+hitOffset (Shear j s) k = shearOffset j s k
 
--- how many hits a pattern makes: K of them, in a grid all places but the start
+-- how many hits a pattern makes: K of them, in a grid all places but the start, in G66 one more than steps
 unfoldable pub hitCount : Pattern → ℕ
+unfolding steps
 hitCount (Line i j n) = n
 hitCount (Arc i j p n) = n
 hitCount (Circle i j clockwise n) = n
 hitCount (Grid vertical pitch steps) = suc (steps .x) * suc (steps .y) - 1
+hitCount (Shear j s) = suc (steps s)
 
--- 15: k × I at its largest k, or a grid's I × P and J × K, does not pass the limit; G29 and G26 name no such product
+-- 15: k × I at its largest k, or a grid's I × P and J × K, does not pass the limit; G29, G26 and G66 name no such product
 unfoldable pub reachIsNear : Pattern → Bool
 reachIsNear (Line i j n) = isNear (pos n *ℤ i)
 reachIsNear (Arc i j p n) = true
 reachIsNear (Circle i j clockwise n) = true
 reachIsNear (Grid vertical pitch steps) = isNear (pos (steps .x) *ℤ pitch .x) && isNear (pos (steps .y) *ℤ pitch .y)
+reachIsNear (Shear j s) = true
+
+-- 18: the numbers of G66 fit together
+unfoldable pub shearIsFit : Pattern → Bool
+unfolding isFit
+shearIsFit (Line i j n) = true
+shearIsFit (Arc i j p n) = true
+shearIsFit (Circle i j clockwise n) = true
+shearIsFit (Grid vertical pitch steps) = true
+shearIsFit (Shear j s) = isFit s
 
 -- ---- Carrying a pattern out
 
@@ -102,17 +117,19 @@ startOf s = startAt (s .waiting .origin) (s .current)
 abbrev pub starting : Progress → Progress
 starting g = withState g (movedTo (dropping (g .state)) (startOf (g .state)))
 
--- G26 ends at the start, any other pattern at its last hit.
+-- G26 and G66 end at the start, any other pattern at its last hit.
 abbrev pub ending : Pattern → Point → Progress → Progress
 ending (Line i j n) start g = g
 ending (Arc i j p n) start g = g
 ending (Circle i j clockwise n) start g = withState g (movedTo (g .state) start)
 ending (Grid vertical pitch steps) start g = g
+ending (Shear j s) start g = withState g (movedTo (g .state) start)
 
--- Pattern reach is judged before its hits.
+-- 18 comes before anything of 14 to 17 is looked at. Pattern reach is judged before its hits.
 unfoldable pub pattern : Judging → Frame → ℕ → Pattern → Progress → Out (Made Progress)
-unfolding punches hitCount reachIsNear
+unfolding punches hitCount reachIsNear shearIsFit
 pattern j f line p g = do
+  _ ← need (shearIsFit p) 18 line
   _ ← need (judged (j .bounds) (reachIsNear p)) 15 line
   mapAfter (ending p (startOf (g .state))) (punches j f line p (startOf (g .state)) (hitCount p) 0 (starting g))
 

@@ -9,9 +9,9 @@ use Rattle.aries.specs.Outcome.{refused}
 use Rattle.aries.specs.Text.{lines}
 use Rattle.aries.specs.Program.{expand}
 
--- A refusal's number is from 1 to 17; its line is 0 exactly for 1, and else from 1 to the number of lines.
+-- A refusal's number is from 1 to 18; its line is 0 exactly for 1, and else from 1 to the number of lines.
 pub record RefusalOf (text : List ℕ) (number line : ℕ) : Type 0 where
-  pub numbered : (1 ≤ number) × (number ≤ 17)
+  pub numbered : (1 ≤ number) × (number ≤ 18)
   pub lineless : (line ≡ 0) ↔ (number ≡ 1)
   pub lined : (number ≡ 1 → ⊥) → (1 ≤ line) × (line ≤ length (lines text))
 

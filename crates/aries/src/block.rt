@@ -23,6 +23,7 @@ pub enum Kind {
     LetterV,
     LetterW,
     Unknown,
+    G66,
 }
 
 // One axis of a block: its value where it is written.
@@ -48,6 +49,15 @@ pub struct Steps {
 pub struct Pitch {
     pub x: u32,
     pub y: u32,
+}
+
+// The lengths of G66: of the edge (I), of the tool along it (P) and across it (Q), which have the sign of the side where the
+// tool lies, and what is added at both ends (D).
+pub struct Shear {
+    pub length: i32,
+    pub along: i32,
+    pub across: i32,
+    pub compensation: i32,
 }
 
 // A pattern code with its numbers.
@@ -77,6 +87,11 @@ pub enum Pattern {
         vertical: bool,
         pitch: Point,
         steps: Steps,
+    },
+    // G66, at an angle within a full turn
+    Shear {
+        angle: u16,
+        lengths: Shear,
     },
 }
 

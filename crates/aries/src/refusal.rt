@@ -1,4 +1,4 @@
-// The refusals, in checking order, by their numbers.
+// The refusals by their numbers, in checking order but for the last.
 pub const TEXT_LENGTH: u8 = 1;
 
 pub const STRAY_BYTE: u8 = 2;
@@ -32,3 +32,6 @@ pub const TOO_FAR: u8 = 15;
 pub const OUT_OF_RANGE: u8 = 16;
 
 pub const LIST_FULL: u8 = 17;
+
+// Of G66, judged before the four above.
+pub const SHEAR_UNFIT: u8 = 18;

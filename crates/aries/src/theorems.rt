@@ -4,6 +4,7 @@ ghost use Rattle.aries.specs.CopyPairs.{PairAlike};
 ghost use Rattle.aries.specs.Plates.{PlatesHold, MillimetresHold};
 ghost use Rattle.aries.specs.Refusals.{RefusalsNamed};
 ghost use Rattle.aries.specs.Settings.{BaseKept, SettingHolds, PointedAlike};
+ghost use Rattle.aries.specs.FewestSteps.{FewestSteps};
 
 // What is proved of the definitions alone. Each function does nothing; its contract is the theorem.
 
@@ -47,7 +48,7 @@ pub fn pair_alike()
     ensures { λ _. ⌜ PairAlike ⌝ }
 {}
 
-// Demand 1: a refusal has a number from 1 to 17; its line is 0 exactly for 1, and else one of the text.
+// Demand 1: a refusal has a number from 1 to 18; its line is 0 exactly for 1, and else one of the text.
 pub fn refusals_named()
     ensures { λ _. ⌜ RefusalsNamed ⌝ }
 {}
@@ -75,4 +76,10 @@ pub fn setting_holds()
 // A number with a point means the same at both settings.
 pub fn pointed_alike()
     ensures { λ _. ⌜ PointedAlike ⌝ }
+{}
+
+// G66 cuts from D before its start to D past its end, by the fewest equal steps none of which is longer than the tool's size
+// less 0.5 mm; there is one hit exactly where the tool is as long as the cut.
+pub fn fewest_steps()
+    ensures { λ _. ⌜ FewestSteps ⌝ }
 {}
