@@ -13,7 +13,7 @@ use borrow.Author.Tests.{not-true, eqb-true, eqb-false, ne-eqb, leb-true, le-leb
 use Rattle.signed.proofs.Tests.{and-left, and-right}
 use Rattle.aries.specs.declared.word.Word.{Word}
 use Rattle.aries.specs.declared.block.Kind.{Kind}
-use Rattle.aries.specs.declared.block.Kind.the-variants.{G26, G28, G29, G36, G37, G50, G70, G72, G75, G76, G92, G93, G98, Position, Lone, LetterM, LetterB, LetterU, LetterV, LetterW, Unknown}
+use Rattle.aries.specs.declared.block.Kind.the-variants.{G26, G28, G29, G36, G37, G50, G70, G72, G75, G76, G92, G93, G98, Position, Lone, LetterM, LetterB, LetterU, LetterV, LetterW, Unknown, G66}
 use Rattle.aries.specs.Letters.{letterG, letterN, indexOf}
 use Rattle.aries.specs.Test.{among, every, anyOf}
 use Rattle.aries.specs.Text.{bytes, isCapital}
@@ -93,6 +93,7 @@ module _ (w : Letters) where
   listed-once G29 = simp (zero-add, add-left-comm)
   listed-once G36 = simp (zero-add, add-left-comm)
   listed-once G37 = simp (zero-add, add-left-comm)
+  listed-once G66 = simp (zero-add, add-left-comm)
   listed-once G50 = refl
   listed-once G70 = simp (zero-add, add-left-comm)
   listed-once G72 = simp zero-add

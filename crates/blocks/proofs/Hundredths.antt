@@ -11,7 +11,7 @@ use lib.ListN.{length, set}
 use lib.Seq.{set-getD, getD-set-other}
 use borrow.Author.Tests.{eqb-false, leb-true, le-leb, not-true}
 use Rattle.aries.specs.declared.block.Kind.{Kind}
-use Rattle.aries.specs.declared.block.Kind.the-variants.{G26, G28, G29, G36, G37, G50, G70, G72, G75, G76, G92, G93, G98, Position, Lone, LetterM, LetterB, LetterU, LetterV, LetterW, Unknown}
+use Rattle.aries.specs.declared.block.Kind.the-variants.{G26, G28, G29, G36, G37, G50, G70, G72, G75, G76, G92, G93, G98, Position, Lone, LetterM, LetterB, LetterU, LetterV, LetterW, Unknown, G66}
 use Rattle.aries.specs.declared.reader.Setting.{Setting}
 use Rattle.aries.specs.declared.reader.Setting.the-variants.{Hundredths, Millimetres}
 use Rattle.aries.specs.declared.word.Word.{Word}
@@ -26,6 +26,7 @@ use Rattle.aries.proofs.Settings.{pointed-alike, hundredths-written}
 use Rattle.words.specs.Keeping.{lettersOf}
 use Rattle.words.proofs.Keeping.{letters-at, letters-number}
 use Rattle.blocks.specs.Sized.{SizedWord, Sized}
+use Rattle.blocks.specs.Decoding.{isOther}
 use Rattle.blocks.proofs.Sized.{noWord-sized, each-set, by-place}
 
 -- ---- One word
@@ -57,7 +58,7 @@ module _ (forms : List ℕ) (numbers : List ℤ) (letter : ℕ) where
 
 -- another letter's word stays
 pub others-stay :
-    (s : Setting) (ls : List ℕ) (w : Letters) (b : ℕ) → every (λ l. not (eqb (indexOf b) (indexOf l))) ls ≡ true
+    (s : Setting) (ls : List ℕ) (w : Letters) (b : ℕ) → isOther ls b ≡ true
     → at (lettersInHundredths s w ls) b ≡ at w b
 others-stay s [] w b e = refl
 others-stay s (l ∷ ls) w b e =
@@ -130,6 +131,7 @@ kinds-apart G28 = refl
 kinds-apart G29 = refl
 kinds-apart G36 = refl
 kinds-apart G37 = refl
+kinds-apart G66 = refl
 kinds-apart G50 = refl
 kinds-apart G70 = refl
 kinds-apart G72 = refl

@@ -18,6 +18,7 @@ fn coded_kind(code: u32) -> Kind
         36 => Kind::G36,
         37 => Kind::G37,
         50 => Kind::G50,
+        66 => Kind::G66,
         70 => Kind::G70,
         72 => Kind::G72,
         75 => Kind::G75,

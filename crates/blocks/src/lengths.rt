@@ -1,12 +1,14 @@
 ghost use mathlib.Core.Path.{_≡_};
-ghost use mathlib.Core.Bool.{_&&_};
+ghost use mathlib.Core.Bool.{true, _&&_};
 ghost use mathlib.Core.List.{[], _∷_};
 ghost use Prim.Native.Nat.{_<_, _≤_};
 ghost use lib.ListN.{length};
 ghost use Rattle.aries.specs.declared.reader.Setting.the-variants.{Millimetres};
 ghost use Rattle.aries.specs.ByLetter.{at};
 ghost use Rattle.aries.specs.Judging.{isNear};
+ghost use Rattle.aries.specs.Test.{every};
 ghost use Rattle.aries.specs.Numbers.{lengthOf, lettersInHundredths, inHundredths, lengthsFit};
+ghost use Rattle.blocks.specs.Decoding.{isOther};
 ghost use Rattle.blocks.specs.Sized.{SizedWord, SizedLists};
 ghost use Rattle.words.specs.Keeping.{lettersOf};
 use crate::lookup::word_at;
@@ -52,7 +54,32 @@ fn two_to_hundredths(forms: &[u8; 26], numbers: &mut [i32; 26], a: u8, b: u8) ->
     first & second
 }
 
-// All lengths and angles of a block of a kind at setting 0; P is an angle in G29 alone.
+// The same of five that differ: of two, of two more and of the last.
+fn five_to_hundredths(
+    forms: &[u8; 26],
+    numbers: &mut [i32; 26],
+    a: u8,
+    b: u8,
+    c: u8,
+    d: u8,
+    e: u8,
+) -> bool
+    requires { ⌜ (65 ≤ a) × (a < b) × (b ≤ 90) ⌝ }
+    requires { ⌜ (65 ≤ c) × (c < d) × (d ≤ 90) ⌝ }
+    requires { ⌜ (65 ≤ e) × (e ≤ 90) ⌝ }
+    requires { ⌜ (isOther (a ∷ b ∷ []) c ≡ true) × (isOther (a ∷ b ∷ []) d ≡ true) × (isOther (a ∷ b ∷ c ∷ d ∷ []) e ≡ true) ⌝ }
+    requires { ⌜ SizedLists (now forms) (now numbers) ⌝ }
+    ensures { λ _. ⌜ lettersOf (now (forms .entry)) (now (numbers .exit)) ≡ lettersInHundredths Millimetres (lettersOf (now (forms .entry)) (now (numbers .entry))) (a ∷ b ∷ c ∷ d ∷ e ∷ []) ⌝ }
+    ensures { λ r. ⌜ r ≡ every (λ l. isNear (lengthOf Millimetres (at (lettersOf (now (forms .entry)) (now (numbers .entry))) l))) (a ∷ b ∷ c ∷ d ∷ e ∷ []) ⌝ }
+{
+    let first = two_to_hundredths(forms, numbers, a, b);
+    let second = two_to_hundredths(forms, numbers, c, d);
+    let third = one_to_hundredths(forms, numbers, e);
+    first & second & third
+}
+
+// All lengths and angles of a block of a kind at setting 0; P is an angle in G29, and P and Q
+// are lengths in G66.
 fn kind_to_hundredths(forms: &[u8; 26], numbers: &mut [i32; 26], kind: Kind) -> bool
     requires { ⌜ SizedLists (now forms) (now numbers) ⌝ }
     ensures { λ _. ⌜ lettersOf (now (forms .entry)) (now (numbers .exit)) ≡ inHundredths Millimetres kind (lettersOf (now (forms .entry)) (now (numbers .entry))) ⌝ }
@@ -67,15 +94,11 @@ fn kind_to_hundredths(forms: &[u8; 26], numbers: &mut [i32; 26], kind: Kind) -> 
             let p = one_to_hundredths(forms, numbers, b'P');
             ij & p
         }
+        Kind::G66 => five_to_hundredths(forms, numbers, b'I', b'J', b'P', b'Q', b'D'),
         Kind::G70 | Kind::G72 | Kind::G92 | Kind::G93 | Kind::Position => {
             two_to_hundredths(forms, numbers, b'X', b'Y')
         }
-        Kind::G98 => {
-            let xy = two_to_hundredths(forms, numbers, b'X', b'Y');
-            let ij = two_to_hundredths(forms, numbers, b'I', b'J');
-            let d = one_to_hundredths(forms, numbers, b'D');
-            xy & ij & d
-        }
+        Kind::G98 => five_to_hundredths(forms, numbers, b'X', b'Y', b'I', b'J', b'D'),
         _ => true,
     }
 }

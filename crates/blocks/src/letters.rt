@@ -81,6 +81,12 @@ fn form_fits(forms: &[u8; 26], numbers: &[i32; 26], summary: Summary, kind: Kind
             three(forms, numbers, b'I', b'J', b'P') + one(forms, numbers, b'K'),
             two(forms, numbers, b'T', b'A'),
         ),
+        Kind::G66 => all_fit(
+            n,
+            3,
+            three(forms, numbers, b'I', b'J', b'P'),
+            two(forms, numbers, b'Q', b'D') + two(forms, numbers, b'T', b'A'),
+        ),
         Kind::G70 | Kind::Position => axes_fit(forms, numbers, summary, true),
         Kind::G72 | Kind::G93 => axes_fit(forms, numbers, summary, false),
         Kind::G75 | Kind::G76 => all_fit(n, 2, two(forms, numbers, b'W', b'Q'), 0),
@@ -105,7 +111,7 @@ fn beside_fits(summary: Summary, kind: Kind) -> bool
     ensures { λ r. ⌜ r ≡ besideFits (measureBy summary) (formOf kind .beside) ⌝ }
 {
     match kind {
-        Kind::G26 | Kind::G28 | Kind::G29 | Kind::G36 | Kind::G37 => true,
+        Kind::G26 | Kind::G28 | Kind::G29 | Kind::G36 | Kind::G37 | Kind::G66 => true,
         Kind::G70 | Kind::G72 | Kind::Position => true,
         Kind::G93 => !(summary.read & summary.incremental),
         Kind::Lone => summary.read,

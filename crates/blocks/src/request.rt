@@ -1,9 +1,10 @@
 ghost use mathlib.Core.Path.{_≡_};
-ghost use mathlib.Core.Bool.{true};
+ghost use mathlib.Core.Bool.{true, cond};
 ghost use Prim.Native.Nat.{_≤_};
 ghost use lib.IntN.{natAbs};
+ghost use Rattle.sine.specs.Sine.{turn};
 ghost use Rattle.aries.specs.Numbers.{isRanged};
-ghost use Rattle.aries.specs.Blocks.{count, axes, steps, pointOfXY, layout, copies, linePattern, arcPattern, circlePattern, gridPattern, patternBlock, mBlock, blockOf};
+ghost use Rattle.aries.specs.Blocks.{count, axes, steps, pointOfXY, layout, copies, linePattern, arcPattern, circlePattern, gridPattern, shearPattern, patternBlock, mBlock, blockOf};
 ghost use Rattle.aries.specs.Letters.{letterA, letterK, letterP, letterQ, letterT, letterW};
 ghost use Rattle.blocks.specs.Sized.{Sized};
 ghost use Rattle.blocks.specs.Decoding.{axisOf};
@@ -22,6 +23,7 @@ use aries::block::Measure;
 use aries::block::Outside;
 use aries::block::Pattern;
 use aries::block::Pitch;
+use aries::block::Shear;
 use aries::block::Steps;
 use aries::point::Point;
 use aries::word::Word;
@@ -187,6 +189,39 @@ fn grid_of(forms: &[u8; 26], numbers: &[i32; 26], vertical: bool) -> Pattern
     }
 }
 
+// The angle of a word, within a full turn.
+fn angle_of(v: Word) -> u16
+    ensures { λ r. ⌜ r ≡ turn (v .value) ⌝ }
+{
+    let value = v.value;
+    sine::turn(signed::widen(value)) as u16
+}
+
+// The number of a word, or that of another where it is not written.
+fn number_or(v: Word, other: Word) -> i32
+    ensures { λ r. ⌜ r ≡ cond (v .written) (v .value) (other .value) ⌝ }
+{
+    if v.written { v.value } else { other.value }
+}
+
+// G66, in which P and Q are lengths; an absent Q equals P.
+fn shear_of(forms: &[u8; 26], numbers: &[i32; 26]) -> Pattern
+    ensures { λ r. ⌜ r ≡ shearPattern (lettersOf (now (forms .entry)) (now (numbers .entry))) ⌝ }
+{
+    let i = word_at(forms, numbers, b'I');
+    let angle = angle_of(word_at(forms, numbers, b'J'));
+    let p = word_at(forms, numbers, b'P');
+    let across = number_or(word_at(forms, numbers, b'Q'), p);
+    let d = word_at(forms, numbers, b'D');
+    let lengths = Shear {
+        length: i.value,
+        along: p.value,
+        across,
+        compensation: d.value,
+    };
+    Pattern::Shear { angle, lengths }
+}
+
 // A pattern with its T and A.
 fn pattern_block(forms: &[u8; 26], numbers: &[i32; 26], p: Pattern) -> Block
     requires { ⌜ (count (lettersOf (now forms) (now numbers)) letterT ≤ 255) × (count (lettersOf (now forms) (now numbers)) letterA ≤ 255) ⌝ }
@@ -222,6 +257,7 @@ pub fn block_of(forms: &[u8; 26], numbers: &[i32; 26], kind: Kind) -> Block
         Kind::G29 => pattern_block(forms, numbers, arc_of(forms, numbers)),
         Kind::G36 => pattern_block(forms, numbers, grid_of(forms, numbers, false)),
         Kind::G37 => pattern_block(forms, numbers, grid_of(forms, numbers, true)),
+        Kind::G66 => pattern_block(forms, numbers, shear_of(forms, numbers)),
         Kind::G50 => Block::Outside(Outside::End),
         Kind::G70 => Block::Direct(Direct::Move(
             axes_of(forms, numbers),

@@ -239,6 +239,7 @@ fn is_pattern_code(code: u32) -> bool
         29 => true,
         36 => true,
         37 => true,
+        66 => true,
         _ => false,
     }
 }

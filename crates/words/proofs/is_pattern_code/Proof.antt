@@ -19,17 +19,21 @@ returns-5 : tie.Need-returns-5
 returns-5 c = simp (c .match .keys5)
 
 returns-6 : tie.Need-returns-6
-returns-6 c =
+returns-6 c = simp (c .match .keys6)
+
+returns-7 : tie.Need-returns-7
+returns-7 c =
     let n = c .before .args .code in
     let r = c .match .rest in
     simp (
-      ne-eqb n 26 (r .0 .0 .0 .0 .1),
-      ne-eqb n 28 (r .0 .0 .0 .1),
-      ne-eqb n 29 (r .0 .0 .1),
-      ne-eqb n 36 (r .0 .1),
-      ne-eqb n 37 (r .1),
+      ne-eqb n 26 (r .0 .0 .0 .0 .0 .1),
+      ne-eqb n 28 (r .0 .0 .0 .0 .1),
+      ne-eqb n 29 (r .0 .0 .0 .1),
+      ne-eqb n 36 (r .0 .0 .1),
+      ne-eqb n 37 (r .0 .1),
+      ne-eqb n 66 (r .1),
     )
 
 pub is-pattern-code-spec : {M : Type 1} → statement M
 is-pattern-code-spec =
-    tie.close (tie.spec returns returns-2 returns-3 returns-4 returns-5 returns-6)
+    tie.close (tie.spec returns returns-2 returns-3 returns-4 returns-5 returns-6 returns-7)

@@ -3,7 +3,7 @@ use mathlib.Core.Path.{refl}
 use mathlib.Core.List.{[], _∷_}
 use borrow.Author.Needs.{needs}
 use Rattle.words.specs.Keeping.{lettersOf}
-use Rattle.aries.specs.declared.block.Kind.the-variants.{G26, G28, G29, G36, G37, G50, G70, G72, G75, G76, G92, G93, G98, Position, Lone, LetterB, LetterU, LetterV, LetterW}
+use Rattle.aries.specs.declared.block.Kind.the-variants.{G26, G28, G29, G36, G37, G50, G70, G72, G75, G76, G92, G93, G98, Position, Lone, LetterB, LetterU, LetterV, LetterW, G66}
 use Rattle.aries.specs.ByLetter.{Letters}
 use Rattle.aries.specs.Forms.{kindFits}
 use Rattle.blocks.proofs.Arms.{alike}
@@ -26,4 +26,4 @@ kind-fits-spec =
     (λ c. simp (c .before .before .enum-told .given .1, c .is-m-code .ensures, c .before .word-at .ensures))
     (λ c. simp (alike (kindFits (all-words (c .before .before))) (c .before .before .args .kind) (LetterU ∷ LetterV ∷ []) refl (c .before .match .keys2), c .has .ensures))
     (λ c. simp (c .enum-told2 .given .1))
-    (λ c. simp (alike (kindFits (all-words (c .before))) (c .before .args .kind) (G26 ∷ G28 ∷ G29 ∷ G36 ∷ G37 ∷ G50 ∷ G70 ∷ G72 ∷ G75 ∷ G76 ∷ G92 ∷ G93 ∷ G98 ∷ Position ∷ Lone ∷ LetterB ∷ LetterW ∷ []) refl (c .match .keys4))))
+    (λ c. simp (alike (kindFits (all-words (c .before))) (c .before .args .kind) (G26 ∷ G28 ∷ G29 ∷ G36 ∷ G37 ∷ G50 ∷ G70 ∷ G72 ∷ G75 ∷ G76 ∷ G92 ∷ G93 ∷ G98 ∷ Position ∷ Lone ∷ LetterB ∷ LetterW ∷ G66 ∷ []) refl (c .match .keys4))))

@@ -3,7 +3,7 @@ use mathlib.Core.Path.{refl}
 use mathlib.Core.Bool.{and-true}
 use mathlib.Core.List.{[], _∷_}
 use borrow.Author.Needs.{needs}
-use Rattle.aries.specs.declared.block.Kind.the-variants.{G36, G37, G50, G70, G72, G75, G76, G92, G93, Position, Lone, LetterM, Unknown}
+use Rattle.aries.specs.declared.block.Kind.the-variants.{G36, G37, G50, G70, G72, G75, G76, G92, G93, Position, Lone, LetterM, Unknown, G66}
 use Rattle.aries.specs.Numbers.{rangesOf}
 use Rattle.blocks.proofs.Arms.{alike}
 use Rattle.blocks.proofs.numbers.ranges_fit.Statement.{statement}
@@ -35,4 +35,4 @@ ranges-fit-spec =
     (λ c. simp (c .before .before .enum-told6 .given .1, c .whole8 .ensures, c .before .word-at11 .ensures, and-true))
     (λ c. simp (c .before .before .enum-told7 .given .1, c .whole9 .ensures, c .before .word-at12 .ensures, and-true))
     (λ c. simp (c .before .before .enum-told8 .given .1, c .whole10 .ensures, c .before .word-at13 .ensures, and-true))
-    (λ c. simp (alike rangesOf (c .before .args .kind) (G50 ∷ G70 ∷ G72 ∷ G92 ∷ G93 ∷ Position ∷ Lone ∷ LetterM ∷ Unknown ∷ []) refl (c .match .keys11))))
+    (λ c. simp (alike rangesOf (c .before .args .kind) (G50 ∷ G70 ∷ G72 ∷ G92 ∷ G93 ∷ Position ∷ Lone ∷ LetterM ∷ Unknown ∷ G66 ∷ []) refl (c .match .keys11))))
