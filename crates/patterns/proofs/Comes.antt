@@ -6,7 +6,7 @@ use native.Mathlib.Nat.{sub-zero}
 use native.Mathlib.Omega.{arith}
 use Rattle.aries.specs.declared.point.Point.{Point}
 use Rattle.aries.specs.declared.block.Pattern.{Pattern}
-use Rattle.aries.specs.declared.block.Pattern.the-variants.{Line, Arc, Circle, Grid}
+use Rattle.aries.specs.declared.block.Pattern.the-variants.{Line, Arc, Circle, Grid, Shear}
 use Rattle.aries.specs.declared.job.Job.{Job}
 use Rattle.aries.specs.declared.state.Frame.{Frame}
 use Rattle.aries.specs.declared.state.Progress.{Progress}
@@ -28,6 +28,7 @@ ending-hits (Line pitch angle count) start g = refl
 ending-hits (Arc radius angle step count) start g = refl
 ending-hits (Circle radius angle clockwise count) start g = refl
 ending-hits (Grid vertical pitch steps) start g = refl
+ending-hits (Shear angle lengths) start g = refl
 
 -- a number that is not 0 is a refusal's
 pub status-refused : (number line : ℕ) → 0 < number → statusAt number line ≡ Refused number line

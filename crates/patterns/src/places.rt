@@ -8,7 +8,6 @@ ghost use mathlib.Core.Bool.{true};
 ghost use Prim.Native.Nat.{_<_, _≤_};
 ghost use lib.IntN.{pos, _*ℤ_};
 ghost use Rattle.sine.specs.Series.{Tables};
-ghost use Rattle.sine.specs.Sine.{directionOf};
 ghost use Rattle.lanes.specs.Cursors.{passed};
 ghost use Rattle.aries.specs.WidePoints.{pointOf};
 ghost use Rattle.aries.specs.Judging.{isNear};
@@ -18,16 +17,6 @@ ghost use Rattle.patterns.specs.Offsets.{toward, laneEnd};
 
 // Two full turns, in hundredths of a degree.
 const TWO_TURNS: u64 = 72_000;
-
-// The direction of all hits of a line.
-pub fn line_direction(angle: i32) -> Direction
-    ensures { λ r. ⌜ r ≡ directionOf angle ⌝ }
-{
-    let degrees = sine::degree_sines();
-    let sines = sine::hundredth_sines();
-    let cosines = sine::hundredth_cosines();
-    sine::direction_of(signed::widen(angle), &degrees, &sines, &cosines)
-}
 
 // The place at a distance from the start, in a direction.
 fn polar_place(start: Point, distance: i32, direction: Direction) -> WidePoint

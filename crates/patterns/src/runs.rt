@@ -25,7 +25,7 @@ fn status_at(number: u8, line: u64) -> Status
     }
 }
 
-// Carries a pattern out: its reach is judged, a waiting origin is used up, and the hits are made.
+// Carries a pattern out: its numbers and its reach are judged, a waiting origin is used up, and the hits are made.
 fn carry_out(
     list: &mut [i32],
     frame: Frame,
@@ -35,6 +35,9 @@ fn carry_out(
 ) -> Outcome
     ensures { λ r. ⌜ Carried r frame (lent (now (list .entry))) (lent (now (list .exit))) progress (λ j. Patterns.pattern j frame line pattern) ⌝ }
 {
+    if !sizes::shear_is_fit(pattern) {
+        return Outcome::refused(refusal::SHEAR_UNFIT, line, progress);
+    }
     if !sizes::reach_is_near(pattern) {
         return Outcome::refused(refusal::TOO_FAR, line, progress);
     }

@@ -1,6 +1,7 @@
 use crate::places;
 use crate::sizes;
 use aries::block::Pattern;
+use aries::block::Shear;
 use aries::block::Steps;
 use aries::point::Point;
 use aries::point::WidePoint;
@@ -11,10 +12,12 @@ use press::hits::Judged;
 ghost use mathlib.Core.Path.{_≡_};
 ghost use mathlib.Core.Bool.{true};
 ghost use lib.IntN.{pos, _*ℤ_};
+ghost use Rattle.aries.specs.declared.block.Pattern.the-variants as pattern;
 ghost use Rattle.aries.specs.declared.block.Pattern.the-variants.{Line, Arc, Circle, Grid};
 ghost use Rattle.aries.specs.Judging.{isNear, limits};
 ghost use Rattle.aries.specs.Moves.{punch};
-ghost use Rattle.aries.specs.Patterns.{reachIsNear};
+ghost use Rattle.aries.specs.Patterns.{reachIsNear, shearIsFit};
+ghost use Rattle.aries.specs.Shear.{isFit};
 ghost use Rattle.aries.specs.WidePoints.{pointOf};
 ghost use Rattle.aries.specs.Runs.{lent};
 ghost use Rattle.patterns.specs.Series.{Comes, series};
@@ -73,7 +76,7 @@ fn punch_line(
     requires { ⌜ isNear (pos count *ℤ pitch) ≡ true ⌝ }
     ensures { λ r. ⌜ Comes r frame tooling start hits (lent (now (list .entry))) (lent (now (list .exit))) (series frame (Line pitch angle count) start) ⌝ }
 {
-    let direction = places::line_direction(angle);
+    let direction = sine::direction_at(angle);
     let mut made = Reached {
         number: 0,
         current: start,
@@ -196,6 +199,42 @@ fn punch_grid(
     made
 }
 
+// The hits of a G66, which ends at its start.
+fn punch_shear(
+    list: &mut [i32],
+    frame: Frame,
+    tooling: Tooling,
+    start: Point,
+    hits: usize,
+    angle: u16,
+    shear: Shear,
+) -> Reached
+    requires { ⌜ isFit shear ≡ true ⌝ }
+    ensures { λ r. ⌜ Comes r frame tooling start hits (lent (now (list .entry))) (lent (now (list .exit))) (series frame (pattern.Shear angle shear) start) ⌝ }
+{
+    let cut = shears::places::prepare(angle, shear);
+    let count = cut.hits;
+    let mut made = Reached {
+        number: 0,
+        current: start,
+        hits,
+    };
+    let mut k = 0;
+    while k < count {
+        let place = shears::places::place(start, cut, k);
+        made = punch_next(list, frame, tooling, place, made);
+        if 0 < made.number {
+            return made;
+        }
+        k += 1;
+    }
+    Reached {
+        number: 0,
+        current: start,
+        hits: made.hits,
+    }
+}
+
 // The hits of a pattern in turn, up to the first refusal.
 pub fn punch_series(
     list: &mut [i32],
@@ -206,6 +245,7 @@ pub fn punch_series(
     pattern: Pattern,
 ) -> Reached
     requires { ⌜ reachIsNear pattern ≡ true ⌝ }
+    requires { ⌜ shearIsFit pattern ≡ true ⌝ }
     ensures { λ r. ⌜ Comes r frame tooling start hits (lent (now (list .entry))) (lent (now (list .exit))) (series frame pattern start) ⌝ }
 {
     match pattern {
@@ -251,5 +291,8 @@ pub fn punch_series(
             pitch,
             steps,
         } => punch_grid(list, frame, tooling, start, hits, vertical, pitch, steps),
+        Pattern::Shear { angle, lengths } => {
+            punch_shear(list, frame, tooling, start, hits, angle, lengths)
+        }
     }
 }

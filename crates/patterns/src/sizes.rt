@@ -5,7 +5,7 @@ ghost use mathlib.Core.Path.{_≡_};
 ghost use Prim.Native.Nat.{suc, _-_, _*_};
 ghost use lib.IntN.{pos, _*ℤ_};
 ghost use Rattle.aries.specs.Judging.{isNear};
-ghost use Rattle.aries.specs.Patterns.{reachIsNear};
+ghost use Rattle.aries.specs.Patterns.{reachIsNear, shearIsFit};
 ghost use Rattle.patterns.specs.Offsets.{laneEnd};
 
 // How many hits a grid makes: its places but the start.
@@ -31,8 +31,8 @@ fn is_near(count: u16, pitch: i32) -> bool
     signed::size_at_most(signed::product(count, pitch), point::FARTHEST)
 }
 
-// Whether the farthest distance of a line, or the sides of a grid, stay within the largest coordinate. Arcs and circles
-// have no reach.
+// Whether the farthest distance of a line, or the sides of a grid, stay within the largest coordinate. Other patterns have
+// no reach.
 pub fn reach_is_near(pattern: Pattern) -> bool
     ensures { λ r. ⌜ r ≡ reachIsNear pattern ⌝ }
 {
@@ -49,5 +49,19 @@ pub fn reach_is_near(pattern: Pattern) -> bool
                 false
             }
         }
+        Pattern::Shear { .. } => true,
+    }
+}
+
+// Whether the numbers of a G66 fit together; other patterns have none that have to.
+pub fn shear_is_fit(pattern: Pattern) -> bool
+    ensures { λ r. ⌜ r ≡ shearIsFit pattern ⌝ }
+{
+    match pattern {
+        Pattern::Line { .. } => true,
+        Pattern::Arc { .. } => true,
+        Pattern::Circle { .. } => true,
+        Pattern::Grid { .. } => true,
+        Pattern::Shear { lengths, .. } => shears::numbers::is_fit(lengths),
     }
 }

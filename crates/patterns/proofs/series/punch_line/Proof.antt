@@ -43,7 +43,7 @@ place-is : (c : tie.After-line-place Inv-loop μ-loop)
 place-is c =
     let l = c .before .before in
     let s = line (entry l) in
-    (rw (l .before .line-direction .ensures) at (c .line-place .ensures)) ∙ ap (λ (q : Point). s .start ⊕ q) (offset-line _ _ (s .count) (l .loop .k))
+    (rw (l .before .direction-at .ensures) at (c .line-place .ensures)) ∙ ap (λ (q : Point). s .start ⊕ q) (offset-line _ _ (s .count) (l .loop .k))
 
 loop-holds : tie.Need-loop-holds Inv-loop μ-loop
 loop-holds c =

@@ -2,7 +2,7 @@
 use mathlib.Core.Path.{sym, ap, _∙_}
 use mir.Syntax.{w32}
 use Rattle.signed.proofs.Integers.{read-back}
-use Rattle.aries.specs.Patterns.{reachIsNear}
+use Rattle.aries.specs.Patterns.{reachIsNear, shearIsFit}
 use borrow.Author.Needs.{needs}
 use Rattle.patterns.proofs.series.punch_series.Statement.{statement}
 use Rattle.patterns.proofs.series.punch_series.Tie as tie
@@ -11,7 +11,7 @@ punch-line-requires : tie.Need-punch-line-requires
 unfolding reachIsNear
 punch-line-requires c κs =
     let p = c .before .before in
-    simp (read-back w32 (p .pattern .given .0 .0) (c .before .known-told .given .0 .1)) (sym (ap reachIsNear (p .pattern .given .1)) ∙ p .before .before .pre)
+    simp (read-back w32 (p .pattern .given .0 .0) (c .before .known-told .given .0 .1)) (sym (ap reachIsNear (p .pattern .given .1)) ∙ p .before .before .pre .0)
 
 returns : tie.Need-returns
 returns c =
@@ -40,6 +40,17 @@ returns-4 : tie.Need-returns-4
 returns-4 c =
     rw (c .before .before .before .before .pattern4 .given .1) (c .before .punch-grid .ensures)
 
+-- the numbers of a G66 fit together
+punch-shear-requires : tie.Need-punch-shear-requires
+unfolding shearIsFit
+punch-shear-requires c κs =
+    let p = c .before .before in
+    sym (ap shearIsFit (p .pattern5 .given .1)) ∙ p .before .before .pre .1
+
+returns-5 : tie.Need-returns-5
+returns-5 c =
+    rw (c .before .before .before .before .pattern5 .given .1) (c .before .punch-shear .ensures)
+
 pub punch-series-spec : {M : Type 1} → statement M
 punch-series-spec =
     tie.close
@@ -53,10 +64,14 @@ punch-series-spec =
     (λ c. search needs)
     (λ c κs. search needs)
     (λ c. search needs)
+    punch-shear-requires
+    (λ c. search needs)
     returns
     (λ c. search needs)
     returns-2
     (λ c. search needs)
     returns-3
     (λ c. search needs)
-    returns-4)
+    returns-4
+    (λ c. search needs)
+    returns-5)

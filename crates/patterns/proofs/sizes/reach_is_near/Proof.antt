@@ -45,6 +45,9 @@ is-near-requires-2 c κs = search needs
 is-near-requires-3 : tie.Need-is-near-requires-3
 is-near-requires-3 c κs = search needs
 
+enum-told-3 : tie.Need-enum-told-3
+enum-told-3 c = search needs
+
 returns : tie.Need-returns
 unfolding reachIsNear
 returns c =
@@ -72,6 +75,10 @@ returns-5 c =
     let e = sym (x-near (c .before)) ∙ c .if1 .left in
     simp (ap reachIsNear (p .given .1)) (simp e)
 
+returns-6 : tie.Need-returns-6
+unfolding reachIsNear
+returns-6 c = sym (ap reachIsNear (c .enum-told3 .given .1))
+
 pub reach-is-near-spec : {M : Type 1} → statement M
 reach-is-near-spec =
     tie.close
@@ -83,8 +90,10 @@ reach-is-near-spec =
     enum-known-pattern-2
     is-near-requires-2
     is-near-requires-3
+    enum-told-3
     returns
     returns-2
     returns-3
     returns-4
-    returns-5)
+    returns-5
+    returns-6)

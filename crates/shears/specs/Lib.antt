@@ -1,0 +1,2 @@
+pub mod Fractions
+pub mod Cuts
