@@ -18,6 +18,7 @@ FAULT = {
     15: ('G28I9999.J0K2T1', 'the reach 2 x 999,900'),
     16: ('X-20.T1', 'a hit outside the range'),
     17: ('X1.Y1.T1', 'no place in a list of 3 numbers'),
+    18: ('G66I29.99J0P20.T1', '2,999 is under 1.5 times 2,000'),
 }
 for n, (block, why) in FAULT.items():
     length = 3 if n == 17 else 16384
@@ -157,13 +158,13 @@ DEEP = 'U61/%s/V61/U62/W61/V62/U63/W62/V63/U64/W63/V64/W64'   # in the body of 6
 
 case('order-01-before-02', b'!' + b' ' * 60000, R(1, 0), 'a bad byte in 60,001 bytes')
 case('order-01-before-07', b' ' * 60001, R(1, 0), 'no G50 in 60,001 bytes')
-ORDER2 = {4: 'X', 5: 'Z1', 6: 'B6', 7: A222, 9: 'V1', 10: 'B1', 13: None, 14: 'X1.', 15: 'G91X9999.T1', 16: 'X-20.T1', 17: None}
+ORDER2 = {4: 'X', 5: 'Z1', 6: 'B6', 7: A222, 9: 'V1', 10: 'B1', 13: None, 14: 'X1.', 15: 'G91X9999.T1', 16: 'X-20.T1', 17: None, 18: 'G66I1.J0P1.T1'}
 for k, block in ORDER2.items():
     if block:
         case('order-02-before-%02d' % k, p(block) + '/%', R(2, 4), 'a bad byte anywhere comes first; the block of line 2 alone would give %d' % k)
 
 AT3 = {
-    4: 'X', 5: 'Z1', 6: 'B6', 7: A222, 8: 'G92X1.Y1.', 9: 'U1', 10: 'W88', 12: 'U88' + LONG + 'V88', 13: 'G75W61Q1', 14: 'X1.', 15: 'G91X9999.T1', 16: 'X-20.T1',
+    4: 'X', 5: 'Z1', 6: 'B6', 7: A222, 8: 'G92X1.Y1.', 9: 'U1', 10: 'W88', 12: 'U88' + LONG + 'V88', 13: 'G75W61Q1', 14: 'X1.', 15: 'G91X9999.T1', 16: 'X-20.T1', 18: 'G66I1.J0P1.T1',
 }
 for k, block in AT3.items():
     t, n = after(100000, block)
@@ -191,6 +192,7 @@ case('order-04-before-14', p('X1.Y'), R(4, 2), 'Y has no digits, no tool')
 case('order-04-before-15', p('G28I9999.J0K2T'), R(4, 2), 'T has no digits, the reach is too far')
 case('order-04-before-16', p('X1.Y1.T1/X-20.T'), R(4, 3), 'T has no digits, the hit is outside the range')
 case('order-04-before-17', p('X1.Y1.T1/X2.T'), R(4, 3), 'T has no digits, the list is full', 4)
+case('order-04-before-18', p('G66I1.J0P1.QT1'), R(4, 2), 'Q has no digits, w is not above 1 mm')
 
 case('order-05-before-06', p('T0'), R(5, 2), 'T alone is no block, and 0 is no tool')
 case('order-05-before-07', 'M2/' + p(''), R(5, 1), 'an unknown code in the first block')
@@ -205,6 +207,7 @@ case('order-05-before-14', p('X1.Y1.M0'), R(5, 2), 'M stands alone; no tool')
 case('order-05-before-15', p('G28I9999.J0K2X1'), R(5, 2), 'X beside a pattern; the reach is too far')
 case('order-05-before-16', p('X1.Y1.T1/X-20.M0'), R(5, 3), 'M stands alone; outside the range')
 case('order-05-before-17', p('X1.Y1.T1/X2.M0'), R(5, 3), 'M stands alone; the list is full', 4)
+case('order-05-before-18', p('G66I1.J0P1.K1T1'), R(5, 2), 'K is no letter of G66; w is not above 1 mm')
 
 case('order-06-before-07', 'B6/' + p(''), R(6, 1), 'no memory 6; the first block is not G92')
 case('order-06-before-08', 'N10000G92X1.Y1./G50', R(6, 1), 'N is out of range; no machine')
@@ -218,6 +221,7 @@ case('order-06-before-14', p('X1.Y1.T0'), R(6, 2), 'no tool 0, so no tool is cho
 case('order-06-before-15', p('G28I9999.J0K2T0'), R(6, 2), 'no tool 0; the reach is too far')
 case('order-06-before-16', p('X1.Y1.T1/X-20.T0'), R(6, 3), 'no tool 0; outside the range')
 case('order-06-before-17', p('X1.Y1.T1/X2.T0'), R(6, 3), 'no tool 0; the list is full', 4)
+case('order-06-before-18', p('G66I1.J0P1.T0'), R(6, 2), 'no tool 0; w is not above 1 mm')
 
 case('order-07-before-08', p('G92X1.Y1.'), R(7, 2), 'G92 comes again; it names no machine')
 case('order-07-before-09', 'U60/X1.Y1.T1/' + p(''), R(7, 1), 'the first block is not G92; no V follows')
@@ -231,6 +235,8 @@ case('order-07-before-15', 'G28I9999.J0K2T1/' + p(''), R(7, 1), 'the first block
 case('order-07-before-15-origin-in-a-body', p('G98X9999.99Y0/U60/G93X1/V60/W60'), R(7, 4), 'a body runs G93; the origin is too far')
 case('order-07-before-16', p('X1.Y1.T1') + '/X-20.', R(7, 4), 'after G50; outside the range')
 case('order-07-before-17', p('X1.Y1.T1') + '/X2.', R(7, 4), 'after G50; the list is full', 4)
+case('order-07-before-18', p('X1.Y1.T1') + '/G66I1.J0P1.', R(7, 4), 'after G50; w is not above 1 mm')
+case('order-07-before-18-in-the-first-block', 'G66I1.J0P1.T1/' + p(''), R(7, 1), 'the first block is not G92; w is not above 1 mm')
 
 case('order-09-before-12', p('U60' + LONG + 'V61'), R(9, 2), 'not its own V; the body up to there is too long')
 case('order-10-before-11', p(DEEP % 'W88'), R(10, 3), 'nothing is stored under 88; four calls are open')
@@ -244,5 +250,10 @@ case('order-15-before-16', p('G91X9999.T1'), R(15, 2), 'too far is outside the r
 case('order-15-before-17', p('X1.Y1.T1/G91X9999.99'), R(15, 3), 'too far; the list is full', 4)
 case('order-15-before-17-reach', p('X1.Y1.T1/G28I9999.J0K2'), R(15, 3), 'the reach is judged before the hits; the list is full', 4)
 case('order-16-before-17', p('X1.Y1.T1/X-20.'), R(16, 3), 'outside the range; the list is full', 4)
+case('order-18-before-14', p('G66I1.J0P1.'), R(18, 2), 'w is not above 1 mm; no tool')
+case('order-18-before-15', p('G72X9999.99Y0/G66I1.J0P1.T1'), R(18, 3), 'w is not above 1 mm; every hit would be too far')
+case('order-18-before-16', p('G72X-20.Y0/G66I1.J0P1.T1'), R(18, 3), 'w is not above 1 mm; the hits would be outside the range')
+case('order-18-before-17', p('X1.Y1.T1/G66I1.J0P1.'), R(18, 3), 'w is not above 1 mm; the list is full', 4)
+case('order-18-before-14-to-17', p('G72X9999.99Y0/G66I29.99J0P20.'), R(18, 3), 'I is under 1.5 times w; no tool, too far, no place', 0)
 case('order-of-hits-17-of-the-second-before-16-of-the-third', p('X600.Y0T1/G28I5.J0K9'), R(17, 3), 'hit by hit: the second of the line has no place, the third would be outside', 8)
 case('order-of-hits-16-of-the-first-before-15-of-the-second', p('X0Y0T1/G72X9990.Y0/G28I9.J0K2'), R(16, 4), 'hit by hit: the first is outside the range, the second too far')

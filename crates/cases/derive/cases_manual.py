@@ -222,3 +222,85 @@ case('manual-001-v-2-corner-notches', p('G90 X5.00 Y5.00 T30/Y295.00/X495.00/Y5.
 case('manual-001-v-5-corner-rounding', p('G90 X-1.00 Y-4.35 T50/Y304.35/X506.35/Y-4.35'), all_of(P(-100, -435, 50), P(-100, 30435, 50), P(50635, 30435, 50), P(50635, -435, 50)), '001 p. V-5; T filled in')
 case('manual-001-v-8-grid-opening', p('G 90 X 225. Y 325. T 19/G 36 I 25. P 2 J 41.67 K 6'), H(21, {1: P(22500, 32500, 19), 3: P(27500, 32500, 19), 21: P(27500, 57502, 19)}), '001 p. V-8, 002 p. 94: 325 + 6 x 41.67 = 575.02')
 case('manual-001-v-8-as-printed', p('G90 X825.00 Y325.00 T19/G36 I25.00 P2 J41.67 K6'), R(16, 2), '001 p. V-8 as printed: 825 mm on the ARIES-222')
+
+# ---------------------------------------------------------------- G66 in the manuals
+#
+# P30. and I120. with D-0.15: L 11,970, four steps of 2,242.5 from 1,515 on. P50. and I200.: L 19,970, four steps of 3,742.5 from
+# 2,515 on. Q5. is 250 across. A line to the left or downwards takes halves off.
+
+
+def over(places, hits):
+    """The hits of a part at each place."""
+    return [(x + a, y + b, t, m) for x, y in places for a, b, t, m in hits]
+
+
+UPRIGHT = 'G72 X200. Y120./G66 I120. J-90. P30. Q5. D-0.15 T10/G72 X0 Y0/G66 I120. J90. P30. Q5. D-0.15/'
+UPRIGHT_HITS = [P(20250, y, 10) for y in (10485, 8242, 6000, 3757, 1515)] + [P(-250, y, 10) for y in (1515, 3758, 6000, 8243, 10485)]
+LEVEL = 'G72 X0 Y120./G66 I200. J0 P50. Q5. D-0.15 T1/G72 X200. Y0/G66 I200. J180. P50. Q5. D-0.15/'
+LEVEL_HITS = [P(x, 12250, 1) for x in (2515, 6258, 10000, 13743, 17485)] + [P(x, -250, 1) for x in (17485, 13742, 10000, 6257, 2515)]
+CUT = 'U3/' + UPRIGHT + 'V3/U4/' + LEVEL + 'V4/'
+case('manual-000-2-10-window', p('G90 G72 X200. Y150./G66 I80. J30. P20. K50. T2'), R(5, 3), '000 p. 2-10, example 2: K, the width of a window, is no letter of G66 here')
+case('manual-000-2-10-one-edge', p('G90 G72 X200. Y150./G66 I80. J30. P20. T2'), all_of(P(20366, 16366), P(21665, 17116), P(22964, 17866), P(24263, 18616), P(25562, 19366)),
+     '000 p. 2-10, example 2 without K: four steps of 1,500; x 0.866025404 x along - 500, y along / 2 + 866.03')
+case('manual-000-2-26-macro-02', p('U02/G90 X100. Y300. T8/G72 X150. Y500./A1 G66 I100. J0 P20./G72 X450. Y400./B1/V02'),
+     all_of(P(10000, 30000, 8), *[P(x, 51000, 8) for x in (16000, 17600, 19200, 20800, 22400, 24000)], *[P(x, 41000, 8) for x in (46000, 47600, 49200, 50800, 52400, 54000)]),
+     '000 p. 2-26: stored as it runs, and once more by B1; five steps of 1,600')
+case('manual-000-3-3-micro-joints', p('G98 X20. Y100. I250. J150. P1K1/' + CUT + 'G76 W3 Q2/G75 W4 Q3'),
+     all_of(*over([(27000, 10000), (27000, 25000), (2000, 25000), (2000, 10000)], UPRIGHT_HITS), *over([(2000, 25000), (27000, 25000), (27000, 10000), (2000, 10000)], LEVEL_HITS)),
+     '000 p. 3-3, the outside edges: Q2 lower right and up, then Q3 upper left and along')
+case('manual-000-3-3-whole-program', p('G98 X20. Y100. I250. J150. P1K1/' + PART + CUT + 'G76 W1Q4/G76 W2 Q3/G76 W3 Q2/G75 W4 Q3'),
+     H(56 + 80, {1: P(46000, 36000, 3), 56: P(33000, 31000, 9), 57: P(47250, 20485, 10), 62: P(26750, 11515, 10), 96: P(1750, 20485, 10), 97: P(4515, 37250, 1), 136: P(4515, 9750, 1)}),
+     '000 p. 3-3 with all its parts')
+case('manual-000-3-9-with-its-edges', p('G98 X20. Y100. I250. J150. P1 K2/U50/X190. Y110. T3/Y10./X10./Y110./G72 X60. Y60./A1 G26 I25. J45. K4 T2/G72 X140. Y60./B1/X140. Y60. T9/X60./' + UPRIGHT + LEVEL + 'V50/G75 W50 Q1'),
+     H(6 * 34, {1: P(21000, 21000, 3), 14: P(8000, 16000, 9), 15: P(22250, 20485, 10), 24: P(1750, 20485, 10), 25: P(4515, 22250, 1), 34: P(4515, 9750, 1), 35: P(46000, 21000, 3), 204: P(29515, 39750, 1)}),
+     '000 p. 3-9, program example (2) with its G66 blocks; three rows of two')
+case('manual-000-5-ex-1-block-h', p('G72 X50. Y50./G66 I80. J90. P-20. T4'), all_of(*[P(6000, y, 4) for y in (6000, 7500, 9000, 10500, 12000)]), '000 EX. 1, block H: right of a line upwards; four steps of 1,500')
+case('manual-000-5-ex-1-block-i', p('G72 X100. Y120./G66 I150. J0 P20. Q20. K50. T4'), R(5, 3), '000 EX. 1, block I: K is no letter of G66 here')
+case('manual-000-5-ex-2-block-a', p('G72 X-1. Y201./G66 I51. J0 P-20. K51. T4', A224), R(5, 3), '000 EX. 2, block A: K is no letter of G66 here')
+case('manual-000-5-ex-2-block-a-one-edge', p('G72 X-1. Y201./G66 I51. J0 P-20. T4', A224), all_of(P(900, 19100, 4), P(2450, 19100, 4), P(4000, 19100, 4)),
+     '000 EX. 2, block A without K: begins outside the sheet; travel 3,100, two steps of 1,550')
+EX3 = 'G98 X50. Y50. I110. J70. P1 K0/U3/G72 X0 Y0/G66 I60. J90. P30. Q3. D-0.1 T4/G72 X100. Y60./G66 I60. J-90. P30. Q3. D-0.1/V3/U4/G72 X100. Y60./G66 I100. J180. P30. Q3. D-0.1 T5/G72 X0 Y0/G66 I100. J0 P-30. Q-3. %sD-0.1/V4/G75 W3 Q1/G75 W4 Q1'
+case('manual-000-5-ex-3-edges', p(EX3 % ''),
+     all_of(*over([(5000, 5000), (16000, 5000)], [P(-150, 1510, 4), P(-150, 3000, 4), P(-150, 4490, 4), P(10150, 4490, 4), P(10150, 3000, 4), P(10150, 1510, 4)]),
+            *over([(5000, 5000), (16000, 5000)], [P(8490, 5850, 5), P(6163, 5850, 5), P(3837, 5850, 5), P(1510, 5850, 5), P(1510, -150, 5), P(3837, -150, 5), P(6163, -150, 5), P(8490, -150, 5)])),
+     '000 EX. 3 without K 0, two parts in a row filled in: two steps of 1,490 from 1,510 on, and three of 2,326.67')
+case('manual-000-5-ex-3-as-keyed', p(EX3 % 'K0 '), R(5, 13), '000 EX. 3 as keyed in: K 0 is a K')
+case('manual-001-ii-37-shear-angle', p('G72 X120. Y100./G66 I200. J0 P110. Q10. T1'), all_of(P(17500, 10500, 1), P(26500, 10500, 1)), '001 p. II-37, 002 p. 50, T201 as T1: travel 9,000 is one step')
+case('manual-001-iii-3-edges', p('G98 X30.00 Y100.00 I400.00 J250.00 P1 K1/U3/G72 X380.00 Y220.00/G66 I220.00 J-90.00 P85.00 Q5.00 D-0.15 T55/G72 X0 Y0/G66 I220.00 J90.00 P85.00 Q5.00 D-0.15/V3/U4/G72 X0 Y220.00/G66 I380.00 J0 P110.00 Q10.00 D-0.15 T1/G72 X380.00 Y0/G66 I380.00 J180.00 P110.00 Q10.00 D-0.15/V4/G76 W3 Q2/G75 W4 Q3', A224),
+     all_of(*over([(43000, 10000), (43000, 35000), (3000, 35000), (3000, 10000)], [P(38250, 17735, 55), P(38250, 11000, 55), P(38250, 4265, 55), P(-250, 4265, 55), P(-250, 11000, 55), P(-250, 17735, 55)]),
+            *over([(3000, 35000), (43000, 35000), (43000, 10000), (3000, 10000)], [P(x, 22500, 1) for x in (5515, 14505, 23495, 32485)] + [P(x, -500, 1) for x in (32485, 23495, 14505, 5515)])),
+     '001 p. III-3, the outside edges, two by two parts to stay in range, T255 and T201 as T55 and T1: two steps of 6,735 from 4,265 on, three of 8,990 from 5,515 on')
+case('manual-001-v-2-long-corner-notch', p('G90 G72 X-2.00 Y40.00/A1 G66 I102.00 J0 P-50.00 T50/G72 X-2.00 Y80.00/B1'), all_of(*[P(x, y, 50) for y in (1500, 5500) for x in (2300, 4900, 7500)]),
+     '001 and 002, corner notches, T filled in: travel 5,200, two steps of 2,600; right of the line, so below it')
+case('manual-002-27-shear-proof', p('G 72 G 90 X 350. Y 210./G 66 I 120. J 45. P 30. Q 20. D 0.15 T 3'), all_of(P(35343, 22757, 3), P(36939, 24353, 3), P(38536, 25950, 3), P(40132, 27546, 3), P(41728, 29142, 3)),
+     '002 p. 27, T203 as T3: four steps of 2,257.5 from 1,485 on, across 1,000; x of the second 2,742.5 x 0.707106781 = 1939.24')
+case('manual-002-27-other-side', p('G 72 G 90 X 350. Y 210./G 66 I 120. J 45. P -30. Q -20. D 0.15 T 3'), all_of(P(36757, 21343, 3), P(38353, 22939, 3), P(39950, 24536, 3), P(41546, 26132, 3), P(43142, 27728, 3)),
+     '002 p. 27, the dotted side: the same, mirrored at the line')
+case('manual-002-28-window', p('G 72 X 200. Y 300./G 66 I 300. J 0. P 30. K 200. T 3'), R(5, 3), '002 p. 28: K, the width of a window, is no letter of G66 here')
+case('manual-002-77-edges', p('G 98 X 30. Y 100. I 200. J 150. P 3 K 2/U 3/G 90 G 72 X 0 Y 0/G 66 I 120. J 90. P 50. Q 5. D -0.15 T 2/G 72 X 180. Y 120./G 66 I 120. J -90. P 50. Q 5. D -0.15/V 3/U 4/G 90 G 72 X 0 Y 0/G 66 I 180. J 0 P -50. Q -5. D -0.15 T 28/G 72 X 180. Y 120./G 66 I 180. J 180. P -50. Q -5. D -0.15/V 4/G 75 W3 Q 4/G 75 W4 Q 3', A224),
+     H(12 * 6 + 12 * 8, {1: P(62750, 42515), 2: P(62750, 46000), 3: P(62750, 49485), 4: P(81250, 49485), 6: P(81250, 42515), 7: P(42750, 42515), 72: P(21250, 12515),
+                         73: P(5515, 39750, 28), 74: P(9838, 39750, 28), 75: P(14162, 39750, 28), 76: P(18485, 39750, 28), 77: P(18485, 52250, 28), 78: P(14162, 52250, 28), 79: P(9838, 52250, 28), 168: P(65515, 22250, 28)}),
+     '002 p. 77, example 1, the outside edges, X 180. for the printed G 180., T202 and T228 as T2 and T28: two steps of 3,485 from 2,515 on, three of 4,323.33')
+TALL = (2515, 7058, 11600, 16143, 20686, 25229, 29771, 34314, 38857, 43400, 47942, 52485)
+case('manual-002-78-edges', p('G 98 X 30. Y 20. I 185. J 0 P 4 K 0/U 5/G 72 X 180. Y 550./G 66 I 550. J 270. P 50. Q 5. D -0.15 T 2/V 5/U 6/G 72 X 0 Y 550./A 1 G 66 I 180. J 0 P 50. Q 5. D -0.15 T 29/G 72 X 0 Y -5./B 1/V 6/G 75 W 5 Q 2/G 75 W 6 Q 1/G 72 X 0 Y 0/G 66 I 550. J 90. P 50. Q 5. D -0.15 T 1', A224),
+     all_of(*over([(x, 2000) for x in (77000, 58500, 40000, 21500, 3000)], [P(18250, 55000 - a) for a in TALL]),
+            *over([(x, 2000) for x in (3000, 21500, 40000, 58500, 77000)], [P(x, y, 29) for y in (55250, -250) for x in (2515, 6838, 11162, 15485)]),
+            *over([(3000, 2000)], [P(-250, a, 1) for a in TALL])),
+     '002 p. 78, example 2, the outside edges, at Y 20 to stay in range, T202, T229 and T201 as T2, T29 and T1: travel 49,970, eleven steps of 4,542.73 from 2,515 on; the last edge starts at the ordinary origin')
+case('manual-002-81-edges', p('G 98 X 30. Y 100. I 300. J 150. P 2 K 2/U 4/G 72 X 280. Y 140./G 66 I 140. J -90. P 50. Q 5. D -0.15 T 2/G 72 X 0 Y 0/G 66 I 140. J 90. P 50. Q 5. D -0.15/V 4/U 5/G 72 X 0 Y 140./G 66 I 280. J 0 P 80. Q 10. D -0.15 T 8/V 5/G 75 W4 Q 3/G 75 W5 Q 3/G 98 X 30. Y 100. I 300. J 0 P 2 K 0/U 50/G 72 X 0 Y 0/G 66 I 280. J 0 P -80. Q -10. D -0.15 T 8/V 50/G 75 W 50 Q 1', A224),
+     H(54 + 36 + 12, {1: P(31250, 51485), 2: P(31250, 47000), 3: P(31250, 42515), 4: P(2750, 42515), 6: P(2750, 51485), 7: P(61250, 51485), 54: P(62750, 21485),
+                      55: P(7015, 54500, 8), 56: P(13672, 54500, 8), 57: P(20328, 54500, 8), 58: P(26985, 54500, 8), 90: P(86985, 24500, 8), 91: P(7015, 9500, 8), 102: P(86985, 9500, 8)}),
+     '002, example 4, the outside edges, three rows for the printed four to stay in range, T202 and T208 as T2 and T8: two steps of 4,485 from 2,515 on, three of 6,656.67 from 4,015 on')
+NOTCH = ((1344, -71), (2590, 1176), (3837, 2423), (5084, 3669), (6330, 4916), (7577, 6163), (8824, 7410), (10071, 8656))
+case('manual-002-88-notches-of-45-degrees', p('G 72 X 400. Y 0/G 66 I 141.42 J 45. P -20. Q -20. D 1. T 20/M 00/G 72 X 500. Y 400./G 66 I 141.42 J 135. P -20. Q -20. D 1./M 00/G 72 X 100. Y 500./G 66 I 141.42 J -135. P -20. Q -20. D 1./M 00/G 72 X 0 Y 100./G 66 I 141.42 J -45. P -20. Q -20. D 1./M 00'),
+     all_of(*[P(40000 + a, b, 20) for a, b in NOTCH], *[P(50000 - b, 40000 + a, 20) for a, b in NOTCH], *[P(10000 - a, 50000 - b, 20) for a, b in NOTCH], *[P(b, 10000 - a, 20) for a, b in NOTCH]),
+     '002, notches of 45 degrees, T filled in: seven steps of 1,763.14 from 900 on, 1,000 to the right; (along + 1,000) and (along - 1,000) times 0.707106781, turned from corner to corner')
+case('manual-002-90-notch-with-a-larger-tool', p('G 90 X 500. Y 0. T 50/G 72 X 400. Y 0./G 66 I 141.42 J 45. P -50. Q -50. D 1. T 50'), all_of(P(50000, 0, 50), P(43465, -71, 50), P(46768, 3232, 50), P(50071, 6535, 50)),
+     '002, notches of 45 degrees by a small tool, T filled in: two steps of 4,671 from 2,400 on, 2,500 to the right')
+case('manual-002-90-as-printed', p('G 90 X 500. Y 300. T 50/G 72 X 500. Y 200./G 66 I 141.42 J 135. P -50. Q -50 D 1.'), all_of(P(50000, 30000, 50), P(48321, 21715, 50), P(45018, 25018, 50), P(41715, 28321, 50)),
+     '002, the second of these notches as printed: Q -50 without a point is 0.50 mm, so 25 to the right')
+OPENING = (1800, 3745, 5691, 7636, 9582, 11527, 13473, 15418, 17364, 19309, 21255, 23200)
+case('manual-002-94-opening-with-rounded-corners', p('G 72 X 625. Y 375./G 66 I 250. J 180. P 20. Q 20. D -8. T 20/G 72 X 375. Y 375./G 66 I 150. J -90. P 20. Q 20. D -8./G 72 X 375. Y 225./G 66 I 250. J 0. P 20. Q 20. D -8./G 72 X 625. Y 225./G 66 I 150. J 90. P 20. Q 20. D -8./M 00', A224),
+     all_of(*[P(62500 - a, 36500, 20) for a in OPENING], *[P(38500, y, 20) for y in (35700, 33800, 31900, 30000, 28100, 26200, 24300)],
+            *[P(37500 + a, 23500, 20) for a in OPENING], *[P(61500, y, 20) for y in (24300, 26200, 28100, 30000, 31900, 33800, 35700)]),
+     '002, opening with rounded corners, T filled in: travel 21,400, eleven steps of 1,945.45 from 1,800 on, and six of 1,900')

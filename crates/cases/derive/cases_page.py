@@ -55,6 +55,17 @@ example('g36', 'X50. Y50. T2/G36 I20. P2 J10. K1', all_of(P(5000, 5000), P(7000,
         'three columns and two rows, row by row')
 example('g37', 'X50. Y50. T2/G37 I20. P2 J10. K1', all_of(P(5000, 5000), P(5000, 6000), P(7000, 6000), P(7000, 5000), P(9000, 5000), P(9000, 6000)),
         'the same places, column by column')
+example('g66', 'G72 X100. Y100./G66 I150. J0 P-50. Q-5. T2/G72 X100. Y180./G66 I150. J0 P50. Q5./G91 X10.',
+        all_of(P(12500, 9750), P(15833, 9750), P(19167, 9750), P(22500, 9750), P(12500, 18250), P(15833, 18250), P(19167, 18250), P(22500, 18250), P(11000, 18000)),
+        'lower and upper edge of a rack, the tool outside; an edge ends at its start')
+example('g66-at-an-angle', 'G72 X200. Y200./G66 I80. J30. P30. Q10. T2', all_of(P(21049, 21183), P(23214, 22433), P(25379, 23683)),
+        '1,500, 4,000 and 6,500 along, 500 to the left of a line at 30 degrees')
+example('g66-micro-joints', 'G72 X100. Y220./G66 I120. J-90. P30. Q5. D-0.15 T2', all_of(P(10250, 20485), P(10250, 18242), P(10250, 16000), P(10250, 13757), P(10250, 11515)),
+        '0.15 mm are left at both ends of a line downwards')
+example('g66-one-hit', 'X100. Y100. T2/G66 I30. J0 P20. Q10. D-5.', all_of(P(10000, 10000), P(11500, 10500)), 'the length with D is that of the tool: one hit')
+example('g66-from-memory', 'X50. Y50. T3/G72 X100. Y100./A1 G66 I30. J90. P20. Q5./G72 X200. Y100./B1',
+        all_of(P(5000, 5000, 3), P(9750, 11000, 3), P(9750, 12000, 3), P(19750, 11000, 3), P(19750, 12000, 3)), 'left of a line upwards, twice')
+example('g66-too-short', 'G72 X100. Y100./G66 I29.99 J0 P20. T2', R(18, 3), '18: 29.99 mm are under 1.5 times 20 mm')
 example('a-and-b', 'X50. Y50. T2/A1 G28 I10. J90. K2 T3/G70 X100. Y50./B1/X150. Y50. T4/B1',
         all_of(P(5000, 5000), P(5000, 6000, 3), P(5000, 7000, 3), P(10000, 6000, 3), P(10000, 7000, 3), P(15000, 5000, 4), P(15000, 6000, 4), P(15000, 7000, 4)),
         'the memory holds the line without its tool')

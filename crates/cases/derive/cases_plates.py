@@ -9,16 +9,18 @@ PLATES = os.path.join(os.path.dirname(os.path.abspath(__file__)), '../../../plat
 
 class Drawing:
     """Outer size, where the plate's lower left corner lies on the sheet, and the holes from that corner: X, Y, tool, mode.
+    In the same way the hits of rectangular tools that cut its edges, which come after the holes.
 
     Sizes are in millimetres, holes in hundredths."""
 
-    def __init__(self, size, corner, *groups):
+    def __init__(self, size, corner, *groups, edges=()):
         self.size, self.corner = size, corner
         self.holes = [hole for group in groups for hole in group]
+        self.cuts = [cut for edge in edges for cut in edge]
 
     def hits(self):
         left, low = whole(self.corner[0]), whole(self.corner[1])
-        return [(left + x, low + y, tool, mode) for x, y, tool, mode in self.holes]
+        return [(left + x, low + y, tool, mode) for x, y, tool, mode in self.holes + self.cuts]
 
 
 def whole(millimetres):
@@ -66,6 +68,13 @@ def slot(tool, first, pitch, degrees, count):
     return [polar(first, pitch * k, degrees) + (tool, 'N') for k in range(count)]
 
 
+def edge(tool, first, last, count):
+    """Hits of a rectangular tool in equal steps from one place to another."""
+    def between(a, b, k):
+        return a + (b - a) * k / (count - 1)
+    return holes(tool, *((between(first[0], last[0], k), between(first[1], last[1], k)) for k in range(count)))
+
+
 def tube(place):
     """A tube's hole, and four for its clips around it."""
     return holes(14, place) + ring(3, place, 17.5, 45, 90, 4)
@@ -89,6 +98,14 @@ DRAWINGS = {
         (127.76, 85.48), (100, 100),
         rows(2, (14.38, 11.24), 9, 12, 8),
         corners(5, (5, 5), 117.76, 75.48)),
+    'cut-out-rack': Drawing(
+        (127.76, 85.48), (100, 100),
+        rows(2, (14.38, 11.24), 9, 12, 8),
+        edges=(
+            edge(11, (-2.5, 25.15), (-2.5, 60.33), 2),
+            edge(11, (130.26, 60.33), (130.26, 25.15), 2),
+            edge(10, (25.15, 87.98), (102.61, 87.98), 3),
+            edge(10, (102.61, -2.5), (25.15, -2.5), 3))),
     'tip-rack': Drawing(
         (127.76, 85.48), (200, 150),
         columns(3, (12.13, 8.99), 4.5, 24, 16),

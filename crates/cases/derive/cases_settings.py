@@ -182,6 +182,21 @@ for x, y, number in (('9999', '600', 8), ('10000', '600', 6), ('600', '9999', 8)
     at_0('limit-g92-x-%s-y-%s' % (spelled(x), spelled(y)), 'G92X%sY%s/G50' % (x, y), R(number, 1) if number else H(0),
          {8: '8: within the limit of 6, and no machine', 6: '6: past the limit, before 8', 0: 'leading zeros do not count'}[number])
 
+# I, J, P, Q and D of G66, by what each gives with 9999 and with -9999 (9,999 degrees as above). One hit, where D makes L equal to w.
+for letter, body, above, below in (
+    ('i', 'G72X-4999.5Y0/G66I{}J0P20D-4989.5T1', (all_of(P(0, 1000)), 'within the limit of 6: L 2,000, one hit at 1,000 + 498,950'), (R(18, 3), '18: within the limit of 6, and under 1.5 times w')),
+    ('j', 'G72X100Y100/G66I30J{}P20D-5T1', (all_of(P(11222, 8675)), 'within the limit of 6: 1,500 along and 1,000 across at 279 degrees'),
+     (all_of(P(9247, 11638)), 'within the limit of 6: 1,500 along and 1,000 across at -279 degrees')),
+    ('p', 'G72X100Y100/G66I9999J0P{}T1', (R(18, 3), '18: within the limit of 6, and I is under 1.5 times w'), (R(18, 3), '18: within the limit of 6, and I is under 1.5 times w')),
+    ('q', 'G72X0Y-4999.5/G66I30J0P20Q{}D-5T1', (all_of(P(1500, 0)), 'within the limit of 6: 499,950 across'), (R(18, 3), '18: within the limit of 6, and P and Q differ in sign')),
+    ('d', 'G72X9989Y0/G66I30J0P20D{}T1', (R(16, 3), '16: within the limit of 6; the first hit is at 0, and the hits leave the range'), (R(18, 3), '18: within the limit of 6, and L is under w')),
+):
+    limit('g66-' + letter, body, '9999', *above)
+    limit('g66-' + letter, body, '-9999', *below)
+    limit('g66-' + letter, body, '10000', R(6, 3), '6: 1,000,000 hundredths pass the limit')
+    limit('g66-' + letter, body, '-10000', R(6, 3), '6: -1,000,000 hundredths pass the limit')
+    limit('g66-' + letter, body, '999999', R(6, 3), '6: 999,999 mm or degrees')
+
 # used or not
 mm('limit-unused-j-of-a-line', 'X1Y1T1/G28I0J10000K1', R(6, 3), '6: the angle of a line without a length')
 mm('limit-unused-j-of-a-line-9999', 'X1Y1T1/G28I0J9999K1', all_of(P(100, 100), P(100, 100)), 'a line without a length, its angle within the limit')
@@ -212,6 +227,8 @@ mm('order-06-before-07-g92-again', 'G92X10000Y600', R(6, 2), '6: G92 comes again
 mm('order-06-before-07-in-a-body', 'U1/G93X10000/V1', R(6, 3), '6: no body may run G93, either')
 at_0('order-06-before-07-after-g50', p('', M222) + '/X10000', R(6, 3), '6: a block after G50, too')
 at_0('order-06-before-08', 'G92X60000Y60000/G50', R(6, 1), '6: no machine, either')
+mm('order-06-before-18', 'G66I10000J0P1Q-1T1', R(6, 2), '6: w is not above 1 mm, and P and Q differ in sign, too')
+mm('order-05-before-06-k-beside-g66', 'G66I10000J0P20K50T1', R(5, 2), '5: K is not listed for G66')
 mm('order-06-before-14', 'X10000', R(6, 2), '6: no tool is chosen, either')
 mm('order-06-before-15-position', 'G91X10000T1', R(6, 2), '6: the position would be too far, too')
 mm('order-06-before-15-reach', 'G28I10000J0K999T1', R(6, 2), '6: the reach would be too far, too')
@@ -262,6 +279,29 @@ both('origin-too-far', p('G98X9999Y0/G93X1'), R(15, 3), H(0), '999,900 + 100 at 
 both('copy-place-too-far', p('G98X0Y0I102P99/U60/M0/V60/G75W60Q2'), R(15, 6), H(0), '99 x 10,200 at setting 0, so 15 in the calling line')
 both('accepted-at-both', p('X50Y50T2/G36I9P11J9K7'), H(96, {1: P(5000, 5000, 2), 2: P(5900, 5000, 2), 96: P(5000, 11300, 2)}),
      H(96, {1: P(50, 50, 2), 2: P(59, 50, 2), 96: P(50, 113, 2)}), 'the eight by twelve rack, and a hundredth of it')
+
+# ---------------------------------------------------------------- shear proof
+
+SIX = (1000, 2600, 4200, 5800, 7400, 9000)     # along, of I 100 and P 20
+both('shear', p('G72X200.Y300./G66I100J0P20Q10T1'), all_of(*[P(20000 + a, 30500) for a in SIX]), R(18, 3), '100 mm with a tool of 20 at setting 0; at setting 1 w is 0.20 mm, so 18')
+both('shear-accepted-at-both', p('G72X100.Y100./G66I200J0P101T1'), all_of(P(15050, 15050), P(24950, 15050)), all_of(P(10051, 10051), P(10100, 10051), P(10150, 10051)),
+     'w 101 mm: travel 9,900 is one step; w 1.01 mm: travel 99 is two steps of 49.5')
+both('shear-with-points', p('G72X200.Y300./G66I200.J0.P50.Q5.D-0.15T1'),
+     *[all_of(P(22515, 30250), P(26258, 30250), P(30000, 30250), P(33743, 30250), P(37485, 30250))] * 2, 'with a point a number means the same at both settings')
+both('shear-with-a-point-in-p', p('G72X100.Y100./G66I30J0P20.T1'), all_of(P(11000, 11000), P(12000, 11000)), R(18, 3), 'I is 30 mm at setting 0, 0.30 mm at setting 1')
+both('shear-with-a-point-in-i', p('G72X100.Y100./G66I30.J0P-20T1'), all_of(P(11000, 9000), P(12000, 9000)), R(18, 3), 'w is 20 mm at setting 0, 0.20 mm at setting 1')
+both('shear-in-hundredths', p('G72X200.Y300./G66I10000J9000P2000Q1000D0T1'), R(6, 3), all_of(*[P(19500, 30000 + a) for a in SIX]), '6 at setting 0; 100 mm, 90 degrees, 20 and 10 mm at setting 1')
+mm('shear-each-letter', 'G72X200Y300/G66I100J90P-20Q-10D1T1', all_of(*[P(20500, 30000 + a) for a in (900, 2540, 4180, 5820, 7460, 9100)]),
+   'I, J, P, Q and D are lengths and angles: L 102 mm, five steps of 1,640 from 900 on, 500 to the right')
+mm('shear-angle', 'G72X300Y300/G66I30J45P20Q10T1', all_of(P(30354, 31061), P(31061, 31768)), 'the hits of shear-j45-left')
+mm('shear-w-1', 'G66I10J0P1T1', R(18, 2), '18: w is not above 1 mm')
+mm('shear-w-2', 'G72X100Y100/G66I3J0P2T1', all_of(P(10100, 10100), P(10200, 10100)), 'I is exactly 1.5 times w; one step of 100')
+mm('shear-i-29', 'G66I29J0P20T1', R(18, 2), '18: 29 mm are under 1.5 x 20')
+mm('shear-minus-zero', 'G66I30J0P20Q-0T1', R(18, 2), '18: -0 is zero')
+mm('shear-largest-tool', 'G72X-4999.5Y-3333/G66I9999J0P6666D-1666.5T1', all_of(P(0, 0)), '9,999 is exactly 1.5 x 6,666; L equals w: one hit 499,950 along and 333,300 across')
+mm('shear-larger-tool', 'G66I9999J0P6667T1', R(18, 2), '18: 2 x 9,999 is under 3 x 6,667')
+mm('shear-from-memory', 'G72X100Y100/A1G66I30J0P20Q5T1/G72X200Y100/B1', all_of(P(11000, 10250), P(12000, 10250), P(21000, 10250), P(22000, 10250)), 'a stored pattern is multiplied once')
+mm('shear-in-copies', 'G98X100Y100I100P1/U1/G72X5Y5/G66I30J180P20Q5T1/V1/G75W1Q1', all_of(P(9500, 10250), P(8500, 10250), P(19500, 10250), P(18500, 10250)), 'the setting holds in bodies')
 
 # ---------------------------------------------------------------- range ends in whole millimetres
 

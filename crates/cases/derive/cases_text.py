@@ -117,6 +117,19 @@ for block, code, why in (
     ('G37I1.P1K1T1', 'g37-without-j', 'all letters of a pattern are required'),
     ('G37I1.P1J1.T1', 'g37-without-k', 'all letters of a pattern are required'),
     ('G37I1.P1J1.K1Q1T1', 'g37-with-q', 'Q is not one of its letters'),
+    ('G66J0P20.T1', 'g66-without-i', 'I, J and P of G66 are required'),
+    ('G66I30.P20.T1', 'g66-without-j', 'I, J and P of G66 are required'),
+    ('G66I30.J0T1', 'g66-without-p', 'I, J and P of G66 are required'),
+    ('G66I30.J0Q20.T1', 'g66-with-q-for-p', 'I, J and P of G66 are required'),
+    ('G66I30.J0P20.K50.T1', 'g66-with-k', 'K, the window of 000 and 002, is not one of its letters'),
+    ('G66I30.J0P20.K0T1', 'g66-with-k-0', 'K is not one of its letters, whatever its number'),
+    ('G66X1.I30.J0P20.T1', 'g66-with-x', 'X is not one of its letters'),
+    ('G66I30.J0P20.Y1.T1', 'g66-with-y', 'Y is not one of its letters'),
+    ('G66I30.J0P20.W60T1', 'g66-with-w', 'W is not one of its letters'),
+    ('G66I30.J0P20.B1', 'g66-with-b', 'B stands alone'),
+    ('G66I30.J0P20.M0', 'g66-with-m', 'M codes stand alone'),
+    ('G66', 'g66-alone', 'I, J and P of G66 are required'),
+    ('G28I30.J0K1D1.T1', 'g28-with-d', 'D is not one of its letters'),
     ('G50X1.', 'g50-with-x', 'G50 stands alone'),
     ('M0X1.', 'm-with-x', 'M codes stand alone'),
     ('M8M9', 'm-twice', 'no letter stands twice but G'),
@@ -142,10 +155,10 @@ case('letters-optional-ones-left-out', p('G98X0Y0/Y10.X5.T1/G90Y20./G91X1./G70X1
 # ---------------------------------------------------------------- codes (5)
 
 for block, code in (
-    ('G0', 'g0'), ('G4X10.', 'g04'), ('G25X350.', 'g25'), ('G27X350.', 'g27'), ('G66I100.J0P20.Q5.D0T1', 'g66'), ('G73X1.Y1.W1Q4', 'g73'),
+    ('G0', 'g0'), ('G4X10.', 'g04'), ('G25X350.', 'g25'), ('G27X350.', 'g27'), ('G67I-200.J-150.P20.Q20.T1', 'g67'), ('G73X1.Y1.W1Q4', 'g73'),
     ('G94X0Y0', 'g94'), ('G999999', 'g999999'), ('M2', 'm02'), ('M30', 'm30'), ('M500', 'm500'), ('M7', 'm07'), ('C45.', 'c'), ('F1', 'f'),
 ):
-    case('codes-unknown-' + code, p(block), R(5, 2), '5: every code that the list of base codes lacks is unknown')
+    case('codes-unknown-' + code, p(block), R(5, 2), '5: every code that is not listed is unknown')
 case('codes-unknown-in-the-first-line', 'G6A1.6B0/' + p(ONE), R(5, 1), '5 comes before 7: G06 of 001 and 002 is unknown')
 for block, code in (('G+90X1.T1', 'g-with-a-sign'), ('G90.X1.T1', 'g-with-a-point'), ('M+0', 'm-with-a-sign'), ('M0.', 'm-with-a-point')):
     case('codes-' + code, p(block), R(5, 2), '5: a G or M word with a sign or point is unknown')

@@ -6,7 +6,7 @@
 import os
 import sys
 from table import CASES, R, H
-import cases_text, cases_press, cases_limits, cases_manual, cases_page, cases_plates, cases_settings
+import cases_text, cases_press, cases_shear, cases_limits, cases_manual, cases_page, cases_plates, cases_settings
 from expander import expand, printed
 
 bad = 0
@@ -28,13 +28,13 @@ for name, setting, length, text, hand, reason in CASES:
                     print('    hit', k, 'hand', h, 'expander', rest[k - 1 if k > 0 else k])
 print(len(CASES), 'cases,', bad, 'differ')
 
-GROUPS = ['plates', 'page', 'tempting', 'text', 'words', 'letters', 'codes', 'two', 'ranges', 'kinds', 'settings', 'moves', 'origin', 'patterns', 'memory', 'sine', 'macros',
+GROUPS = ['plates', 'page', 'tempting', 'text', 'words', 'letters', 'codes', 'two', 'ranges', 'kinds', 'settings', 'moves', 'origin', 'patterns', 'memory', 'sine', 'shear', 'macros',
           'layouts', 'lists', 'characters', 'calls', 'blocks', 'reach', 'refusal', 'order', 'decision', 'manual', 'samples']
 HEADS = {
     'plates': 'The plates of document 01', 'page': 'The examples of docs/PUNCH-CODE.md', 'tempting': 'Four readings that tempt', 'text': 'Bytes, lines, spaces', 'words': 'The form of a word (4)',
     'letters': 'The letters of each block (5)', 'codes': 'Codes (5)', 'two': 'Two G words (5)', 'ranges': 'Range ends and one beyond (6, 16)',
     'kinds': 'Signs and points on whole numbers (6)', 'settings': 'The decimal point setting (6, and what a number means)', 'moves': 'Moving and punching', 'origin': 'The waiting origin', 'patterns': 'Patterns',
-    'memory': 'Pattern memory', 'sine': 'Sines', 'macros': 'Macros', 'layouts': 'Layouts', 'lists': 'Lists (17)', 'characters': 'Characters of bodies (12)',
+    'memory': 'Pattern memory', 'sine': 'Sines', 'shear': 'Shear proof, G66 (18)', 'macros': 'Macros', 'layouts': 'Layouts', 'lists': 'Lists (17)', 'characters': 'Characters of bodies (12)',
     'calls': 'Open calls (11)', 'blocks': 'Blocks carried out (3)', 'reach': 'Reach (15)', 'refusal': 'Each refusal at the top, in a body, in a first run, in a copy',
     'order': 'Two faults in one block', 'decision': 'Decisions', 'manual': 'Examples of the manuals',
     'samples': 'The sample plates',
@@ -112,6 +112,8 @@ def write(folder):
             if g != group:
                 group = g
                 f.write('\n## %s\n\n' % HEADS[g])
+                if g == 'shear':
+                    f.write('In the last column w is the size of P, L is I + 2 x D, and the travel is L less w. Along and across are from the start, in hundredths.\n\n')
                 if g == 'order':
                     f.write(PAIRS)
                 if g == 'decision':
@@ -137,8 +139,8 @@ In the tables a slash stands for a line feed; a long text, or one with other byt
 blank ones too. The setting is 1 and the list has 16,384 numbers, so places for 4,096 hits, unless something else stands
 before the answer. An answer is a refusal's number and line, or the hits: X, Y, tool, mode. In the last column a number
 before a colon is that refusal's; 000, 001 and 002 are the manuals. Document 01 is the specification, to which document 02
-adds the decimal point setting; the rules are in docs/PUNCH-CODE.md, where the cases named page-.. are worked out step by
-step.
+adds the decimal point setting and G66; the rules are in docs/PUNCH-CODE.md, where the cases named page-.. are worked out
+step by step.
 '''
 
 

@@ -1,4 +1,4 @@
-"""An expander of ARIES punch code, written from document 01, and from document 02 for the decimal point setting.
+"""An expander of ARIES punch code, written from document 01, and from document 02 for the decimal point setting and G66.
 
 expand(text, length, setting) answers (0, hits) or (number, line). Whole numbers throughout; the sine tables come from
 fractions. Slow and plain on purpose: it is read beside the documents.
@@ -101,12 +101,13 @@ def words_of(line, number):
     return words
 
 
-PATTERNS = {26: 'IJK', 28: 'IJK', 29: 'IJPK', 36: 'IPJK', 37: 'IPJK'}
+PATTERNS = {26: 'IJK', 28: 'IJK', 29: 'IJPK', 36: 'IPJK', 37: 'IPJK', 66: 'IJP'}
+MAY_BE_ABSENT = {66: 'QD'}
 CODES = {0, 1, 8, 9, 12, 13}
 FAR = 999999
 
 # the letters that are lengths or angles, by code; None is a position
-LENGTHS = {26: 'IJ', 28: 'IJ', 29: 'IJP', 36: 'IJ', 37: 'IJ', 70: 'XY', 72: 'XY', 92: 'XY', 93: 'XY', 98: 'XYIJD', None: 'XY'}
+LENGTHS = {26: 'IJ', 28: 'IJ', 29: 'IJP', 36: 'IJ', 37: 'IJ', 66: 'IJPQD', 70: 'XY', 72: 'XY', 92: 'XY', 93: 'XY', 98: 'XYIJD', None: 'XY'}
 
 
 class Block:
@@ -195,7 +196,7 @@ def block_of(words, number, setting):
                 unlisted()
         elif c in PATTERNS:
             listed = set(PATTERNS[c])
-            if not (listed <= have <= listed | {'T', 'A'}):
+            if not (listed <= have <= listed | set(MAY_BE_ABSENT.get(c, '')) | {'T', 'A'}):
                 unlisted()
             if 'A' in have:
                 order = [(w.letter, w.value) for w in rest]
@@ -227,8 +228,9 @@ def block_of(words, number, setting):
         whole(letter, 1, 89)
     for letter in 'AB':
         whole(letter, 1, 5)
-    whole('Q', 1, 4)
     c = b.code
+    if c in (75, 76):
+        whole('Q', 1, 4)
     if c in (28, 29):
         whole('K', 1, 999)
     if c in (36, 37):
@@ -486,7 +488,10 @@ class Expander:
                 self.hit(p, number)
             s.at = p
             return
-        numbers = (b.code,) + tuple(b.words[l].value if l in b.words else 0 for l in 'IJPK')
+        i, j, p, k, q, d = (b.words[l].value if l in b.words else 0 for l in 'IJPKQD')
+        if 'Q' not in b.words:
+            q = p
+        numbers = (b.code, i, j, p, k, q, d)
         if 'A' in b.words:
             s.memory[b.words['A'].value] = numbers
         self.pattern(numbers, number)
@@ -516,8 +521,10 @@ class Expander:
         self.hits.append((p[0], p[1], s.tool, 'N' if s.nibbling else 'P'))
 
     def pattern(self, numbers, number):
-        code, i, j, p, k = numbers
+        code, i, j, p, k, q, d = numbers
         s = self.state
+        if code == 66 and not fits(i, p, q, d):
+            raise Refused(18, number)
         start = s.at if s.waiting is None else s.waiting
         s.waiting = None
         if code == 28 and k * abs(i) > FAR:
@@ -525,10 +532,38 @@ class Expander:
         if code in (36, 37) and (abs(i) * p > FAR or abs(j) * k > FAR):
             raise Refused(15, number)
         at = start
-        for o in offsets(code, i, j, p, k):
+        for o in sheared(i, j, p, q, d) if code == 66 else offsets(code, i, j, p, k):
             at = (start[0] + o[0], start[1] + o[1])
             self.hit(at, number)
-        s.at = start if code == 26 else at
+        s.at = start if code in (26, 66) else at
+
+
+def fits(i, p, q, d):
+    """18: whether tool and lengths of a G66 fit. 1.5 times w is compared exactly."""
+    w = abs(p)
+    return (p > 0 and q > 0 or p < 0 and q < 0) and w > 100 and 2 * i >= 3 * w and i + 2 * d >= w
+
+
+def steps(travel, longest):
+    """The fewest equal steps of a travel, none longer than that; none for no travel."""
+    n = 0
+    while n * longest < travel:
+        n += 1
+    return n
+
+
+def sheared(i, j, p, q, d):
+    """The offsets of G66: along the line and across it, to its left, as fractions; each axis is rounded once."""
+    w = abs(p)
+    travel = i + 2 * d - w
+    n = steps(travel, w - 50)
+    c, s = Fraction(cosine(j), UNIT), Fraction(sine(j), UNIT)
+    across = Fraction(q, 2)
+    for m in range(n + 1):
+        along = Fraction(w, 2) - d
+        if n > 0:
+            along += Fraction(travel * m, n)
+        yield nearest(along * c - across * s), nearest(along * s + across * c)
 
 
 def offsets(code, i, j, p, k):
