@@ -37,6 +37,9 @@ done
 printf 'G92X600.Y600.\nX-11.T1\nG50\n' >"$out/refused.nc"
 ends 1 target/example "$out/refused.nc"
 grep -q '^REFUSED 16 LINE 2$' "$out/printed" || fail "a refusal"
+printf 'G92X600.Y600.\nG72X1.Y1.\nG66I3.J0P2.T1\nG66I1.J0P1.\nG50\n' >"$out/unfit.nc"
+ends 1 target/example "$out/unfit.nc"
+grep -q '^REFUSED 18 LINE 4$' "$out/printed" && grep -q 'a G66' "$out/said" || fail "an edge that does not fit"
 printf 'G92X600Y600\nX100Y100T2\nG50\n' >"$out/millimetres.nc"
 ends 0 target/example -0
 ends 0 target/example -0 "$out/millimetres.nc"

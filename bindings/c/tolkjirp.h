@@ -16,7 +16,7 @@ extern "C" {
 #endif
 
 /* The version of this header and of the library that it comes with. */
-#define TOLKJIRP_VERSION "0.3.0"
+#define TOLKJIRP_VERSION "0.4.0"
 
 /* The most bytes that a text may have; a longer one is refused. */
 #define TOLKJIRP_LONGEST_TEXT 60000
@@ -38,12 +38,15 @@ enum tolkjirp_setting {
 #define TOLKJIRP_NIBBLE 1
 
 /* What the three numbers of an answer are. */
-#define TOLKJIRP_REFUSAL 0 /* the refusal, 1 to 17; 0 if the text is accepted */
+#define TOLKJIRP_REFUSAL 0 /* the refusal, 1 to 18; 0 if the text is accepted */
 #define TOLKJIRP_COUNT 1   /* the count of hits; 0 if the text is refused */
 #define TOLKJIRP_LINE 2    /* the line of the refusal, from 1; 0 if the text is
                               accepted or its length is refused */
 
-/* The refusals, in the order of checking. docs/REFUSALS.md has what to do. */
+/*
+ * The refusals, in the order of checking, but that 18 is checked after 13.
+ * docs/REFUSALS.md has what to do.
+ */
 enum tolkjirp_refusal {
     TOLKJIRP_ACCEPTED = 0,
     TOLKJIRP_TEXT_LENGTH = 1,
@@ -62,7 +65,8 @@ enum tolkjirp_refusal {
     TOLKJIRP_NO_TOOL = 14,
     TOLKJIRP_TOO_FAR = 15,
     TOLKJIRP_OUT_OF_RANGE = 16,
-    TOLKJIRP_LIST_FULL = 17
+    TOLKJIRP_LIST_FULL = 17,
+    TOLKJIRP_SHEAR_UNFIT = 18
 };
 
 /* A refusal in words, by its number. */
@@ -105,6 +109,8 @@ static inline const char *tolkjirp_refusal_text(uint64_t refusal)
         return "a place is outside the machine's range";
     case TOLKJIRP_LIST_FULL:
         return "the list has no place left for a hit";
+    case TOLKJIRP_SHEAR_UNFIT:
+        return "the numbers of a G66 don't fit together";
     default:
         return "there is no such refusal";
     }

@@ -3,7 +3,8 @@
 use std::error::Error;
 use std::fmt;
 
-/// Why a program is refused. The value of a variant is the number of the refusal; the order is that of checking.
+/// Why a program is refused. The value of a variant is the number of the refusal; the order is that of checking, but that
+/// [`ShearUnfit`](Refusal::ShearUnfit) is checked after [`NoLayout`](Refusal::NoLayout).
 #[derive(Clone, Copy, Debug, PartialEq, Eq, PartialOrd, Ord, Hash)]
 #[repr(u8)]
 pub enum Refusal {
@@ -42,11 +43,14 @@ pub enum Refusal {
     OutOfRange = 16,
     /// The list has no place left for a hit.
     ListFull = 17,
+    /// The numbers of a G66 don't fit together: P and Q differ in sign or one is zero, the size of P is not above 1 mm, I is
+    /// under 1.5 times that size, or I with D at both ends is under it. That is checked before the block's hits.
+    ShearUnfit = 18,
 }
 
 impl Refusal {
     /// All refusals, by number.
-    pub const ALL: [Refusal; 17] = [
+    pub const ALL: [Refusal; 18] = [
         Refusal::TextLength,
         Refusal::StrayByte,
         Refusal::TooManyBlocks,
@@ -64,9 +68,10 @@ impl Refusal {
         Refusal::TooFar,
         Refusal::OutOfRange,
         Refusal::ListFull,
+        Refusal::ShearUnfit,
     ];
 
-    /// The number of the refusal, 1 to 17.
+    /// The number of the refusal, 1 to 18.
     pub fn number(self) -> u8 {
         self as u8
     }
@@ -91,6 +96,7 @@ impl Refusal {
             Refusal::TooFar => "a place or a reach passes 9,999.99 mm",
             Refusal::OutOfRange => "a place is outside the machine's range",
             Refusal::ListFull => "the list has no place left for a hit",
+            Refusal::ShearUnfit => "the numbers of a G66 don't fit together",
         }
     }
 }
@@ -101,7 +107,7 @@ impl fmt::Display for Refusal {
     }
 }
 
-/// The error of a number that is not 1 to 17.
+/// The error of a number that is not 1 to 18.
 #[derive(Clone, Copy, Debug, PartialEq, Eq)]
 pub struct NoSuchRefusal(pub u8);
 

@@ -26,7 +26,7 @@ fn refusals_have_their_numbers() {
         assert_eq!(refusal.number(), number);
         assert_eq!(Refusal::try_from(number), Ok(refusal));
     }
-    for number in [0, 18, 255] {
+    for number in [0, 19, 255] {
         assert_eq!(Refusal::try_from(number), Err(NoSuchRefusal(number)));
     }
 }
@@ -36,7 +36,7 @@ fn refusals_are_told_apart_in_words() {
     let mut words: Vec<_> = Refusal::ALL.iter().map(Refusal::to_string).collect();
     words.sort();
     words.dedup();
-    assert_eq!(words.len(), 17);
+    assert_eq!(words.len(), 18);
 }
 
 #[test]
@@ -61,6 +61,44 @@ fn copies_follow_the_layout() {
     assert_eq!(
         places("G75 W1 Q4"),
         [(28000, 26000), (3000, 26000), (3000, 11000), (28000, 11000)]
+    );
+}
+
+#[test]
+fn a_long_edge_is_cut_in_equal_steps() {
+    let edge = |setting, block: &str| -> Vec<_> {
+        let text = program(&format!("G72 X100. Y100.\n{block} T2"));
+        let hits = expand(setting, &text, 4096).unwrap();
+        hits.iter().map(|hit| (hit.x, hit.y)).collect()
+    };
+    // 80 mm in steps of at most 19.5 mm: five of 16 mm
+    let along = [11_000, 12_600, 14_200, 15_800, 17_400, 19_000];
+    let left = along.map(|x| (x, 10_250));
+    assert_eq!(edge(Hundredths, "G66 I100. J0 P20. Q5."), left);
+    assert_eq!(edge(Millimetres, "G66 I100 J0 P20 Q5"), left);
+    assert_eq!(edge(Hundredths, "G66 I100. J0 P-20. Q-5."), along.map(|x| (x, 9_750)));
+    // 10 mm less at both ends
+    assert_eq!(edge(Hundredths, "G66 I40. J90. P20. D-10."), [(9_000, 12_000)]);
+}
+
+#[test]
+fn edges_that_do_not_fit_are_refused_before_their_hits() {
+    // no tool is chosen
+    assert_eq!(refusal("G66 I3. J0 P2."), (14, 2));
+    for block in [
+        "G66 I3. J0 P2. Q-2.",
+        "G66 I3. J0 P2. Q0",
+        "G66 I3. J0 P1.",
+        "G66 I2.99 J0 P2.",
+        "G66 I3. J0 P2. D-0.51",
+    ] {
+        assert_eq!(refusal(block), (18, 2), "{block}");
+    }
+    let refused = refused(&program("\nG66 I1. J0 P1. T2"), 1);
+    assert_eq!(refused.refusal, Refusal::ShearUnfit);
+    assert_eq!(
+        refused.to_string(),
+        "refusal 18 in line 3: the numbers of a G66 don't fit together"
     );
 }
 
@@ -228,9 +266,9 @@ fn the_header_has_the_same_version_and_longest_text() {
 }
 
 #[test]
-#[should_panic(expected = "gives refusal 18")]
+#[should_panic(expected = "gives refusal 19")]
 fn an_unknown_refusal_is_caught() {
-    Refused::from_numbers(18, 1);
+    Refused::from_numbers(19, 1);
 }
 
 #[test]

@@ -11,5 +11,6 @@ pub mod programs;
 pub mod random;
 pub mod samples;
 pub mod scribe;
+pub mod shears;
 pub mod tally;
 pub mod workloads;

@@ -67,7 +67,7 @@ pub fn deep_calls(random: &mut Random, setting: Setting) -> Vec<u8> {
         let number = 60 + level;
         let call = if level == 1 {
             random
-                .pick(&["", "X20.\n", "M8\n", "W77\n", "W5\n", "G28I1.J0K3\n"])
+                .pick(&["", "X20.\n", "M8\n", "W77\n", "W5\n", "G28I1.J0K3\n", "G66I3.J0P2.\n"])
                 .to_string()
         } else {
             format!("W{}\n", number - 1)
@@ -88,7 +88,7 @@ pub fn deep_calls(random: &mut Random, setting: Setting) -> Vec<u8> {
 
 /// What comes when the blocks are spent, or nearly; a slash stands for a line feed.
 const LAST_BLOCKS: &str = "G50 G50 G50 W64 W64 G50/M0 G50/V5 G50/V95 G50/X V5 V5 V95 W60/G50 M8 X U61/V62 U60/V60 \
-    G98X9999.Y1.I1.P1/G75W60Q1/G50";
+    G98X9999.Y1.I1.P1/G75W60Q1/G50 G66I1.J0P1. G66I1.J0P1./G50";
 
 /// Blocks near 100,000, through nested macros or through copies.
 pub fn many_blocks(random: &mut Random) -> Vec<u8> {
@@ -127,7 +127,7 @@ pub fn far_places(random: &mut Random, setting: Setting) -> Vec<u8> {
     let (x, y) = random.pick(&[('X', 'Y'), ('Y', 'X')]);
     let corner = 1 + random.below(4);
     let (pitch, ninety) = (at(pitch), at(9_000));
-    text.push_str(&match random.below(9) {
+    text.push_str(&match random.below(10) {
         0 => format!("G93{x}{}\nG98{x}{}{y}0\n", at(first), at(second.max(0))),
         1 => format!("G98{x}{}{y}0\nG93{x}{}\n", at(first), at(second)),
         2 => format!("G93{x}{}\nG72{x}{}\n", at(first), at(second)),
@@ -136,6 +136,11 @@ pub fn far_places(random: &mut Random, setting: Setting) -> Vec<u8> {
         5 => format!("G28I{pitch}J45.K{columns}\nG72{x}{rest}\nG28I{pitch}J{ninety}K{columns}\n"),
         6 => format!("U60\nV60\nG98X{rest}Y5I{pitch}P{columns}K1\nG75W60Q{corner}\n"),
         7 => format!("U60\nM8\nV60\nG98X5Y{rest}J{pitch}P1K{columns}D0\nG76W60Q{corner}\n"),
+        8 => {
+            // 50.5 along and 0.5 across, which are 51 and 1
+            let (start, angle) = (at(999_948 + beyond), if x == 'X' { "0" } else { "90." });
+            format!("G72{x}{start}{y}0\nG66I1.52J{angle}P1.01Q0.01\n")
+        }
         _ => {
             let radius = at(random.within(1..=2));
             format!("G36I{pitch}P{columns}J0K0\nG72X9999.99\nG26I{radius}J0K1\n")
@@ -161,6 +166,8 @@ pub fn range_ends(random: &mut Random, setting: Setting) -> Vec<u8> {
                 "G29I0.01J0P90.K4\n",
                 "G26I0.02J45.K-4\n",
                 "G36I0.01P1J-0.01K1\n",
+                "G66I1.52J0P1.01Q0.01D0.5\n",
+                "G66I1.52J-90.P-1.01Q-0.01D0.5\n",
             ]);
             text.push_str(pattern);
         }
@@ -169,7 +176,7 @@ pub fn range_ends(random: &mut Random, setting: Setting) -> Vec<u8> {
     text.into_bytes()
 }
 
-/// Lines, arcs and circles with large radii and any angles, most of them on the sheet.
+/// Lines, arcs, circles and shears with large radii or lengths and any angles, most of them on the sheet.
 pub fn wide_patterns(random: &mut Random, setting: Setting) -> Vec<u8> {
     let mut text = String::from("G92X600.Y600.\nX300.Y300.T2\n");
     for _ in 0..1 + random.below(3) {
@@ -182,12 +189,20 @@ pub fn wide_patterns(random: &mut Random, setting: Setting) -> Vec<u8> {
         let y = measure(setting, within(30_100, 30_999));
         let count = random.within(1..=999);
         let pitch = measure(setting, random.within(-radius..=radius) / count);
+        let side = random.pick(&[1, -1]);
+        let length = radius.max(200);
+        let width = random.within(101..=2 * length / 3);
+        let extra = measure(setting, random.within((width - length) / 2..=300));
+        let [along, across] = [width, random.within(1..=3_000)].map(|size| measure(setting, side * size));
+        let length = measure(setting, length);
         let radius = measure(setting, radius);
-        let pattern = match random.below(4) {
+        let pattern = match random.below(6) {
             0 => format!("G26I{radius}J{angle}K{count}"),
             1 => format!("G26I{radius}J{angle}K-{count}"),
             2 => format!("G29I{radius}J{angle}P{step}K{count}"),
-            _ => format!("G28I{pitch}J{angle}K{count}"),
+            3 => format!("G28I{pitch}J{angle}K{count}"),
+            4 => format!("G66I{length}J{angle}P{along}"),
+            _ => format!("G66I{length}J{angle}P{along}Q{across}D{extra}"),
         };
         text.push_str(&format!("G72X{x}Y{y}\n{pattern}\n"));
     }
@@ -196,14 +211,14 @@ pub fn wide_patterns(random: &mut Random, setting: Setting) -> Vec<u8> {
 }
 
 /// Blocks that change the state before a run.
-const BEFORE_RUN: &str = "G72X300.Y300. M12 G91 G93X3.Y-2. A2G26I4.J0K3 T5X200.Y200. U2/X1./V2 B1";
+const BEFORE_RUN: &str = "G72X300.Y300. M12 G91 G93X3.Y-2. A2G26I4.J0K3 T5X200.Y200. U2/X1./V2 B1 A2G66I4.J0P-2.5";
 
 /// Blocks that change or show the state within a part.
 const IN_PART: &str = "X10.Y10. B1 B1 B2 M12 M13 G91X1. G90Y5.T7 G72X3.Y4. A1G36I2.P1J2.K1 A1G28I1.5J90.K3 W60 \
-    G70X2.T9 G91 G90 A2G29I3.J0P45.K3 G72Y1. G90G72X5.";
+    G70X2.T9 G91 G90 A2G29I3.J0P45.K3 G72Y1. G90G72X5. A1G66I3.J30.P2. G66I4.J120.P1.5D0.25T6 G91G66I3.J0P-2.";
 
 /// Blocks that show the state after a run.
-const AFTER_RUN: &str = "B1 B2 G28I2.J0K2 X-1. G91X1. G90X5. W60 Y3.T8 G72X1.Y1. G93X1. M8";
+const AFTER_RUN: &str = "B1 B2 G28I2.J0K2 G66I3.J45.P2.D-0.25 X-1. G91X1. G90X5. W60 Y3.T8 G72X1.Y1. G93X1. M8";
 
 /// A layout with a part that changes all of the state, and blocks that show the state afterwards.
 pub fn layout_states(random: &mut Random, setting: Setting) -> Vec<u8> {

@@ -176,13 +176,14 @@ impl Programmer {
             self.memories.push(memory);
             words.push(self.scribe.whole('A', memory));
         }
-        let code = self.scribe.random.pick(&[26, 28, 29, 36, 37]);
+        let code = self.scribe.random.pick(&[26, 28, 29, 36, 37, 66]);
         words.push(self.scribe.code('G', code));
         if self.scribe.random.one_in(8) {
             self.choose_reading(&mut words);
         }
         match code {
             26 | 28 | 29 => self.round_words(&mut words, code),
+            66 => self.shear_words(&mut words),
             _ => self.grid_words(&mut words),
         }
         if self.scribe.random.one_in(5) {
@@ -216,6 +217,29 @@ impl Programmer {
             words.push(self.scribe.measure(pitch, length));
             let spaces = self.scribe.count(0, 999);
             words.push(self.scribe.whole(count, spaces));
+        }
+    }
+
+    /// The numbers of a shear, which usually fit together.
+    fn shear_words(&mut self, words: &mut Vec<String>) {
+        let width = self.scribe.length(101, 900);
+        let size = width.abs().clamp(101, 2_000);
+        let least = (3 * size + 1) / 2;
+        let further = self.scribe.random.pick(&[200, 1_500, 1_500, 1_500, 15_000]);
+        let length = self.scribe.length(least, least + further);
+        words.push(self.scribe.measure('I', length));
+        let angle = self.scribe.angle();
+        words.push(self.scribe.measure('J', angle));
+        let side = self.scribe.random.pick(&[1, -1]);
+        words.push(self.scribe.measure('P', side * width));
+        if self.scribe.random.one_in(2) {
+            let across = self.scribe.length(1, 900);
+            words.push(self.scribe.measure('Q', side * across));
+        }
+        if self.scribe.random.one_in(2) {
+            let least = (size - length) / 2;
+            let extra = self.scribe.length(least, least.max(0) + 400);
+            words.push(self.scribe.measure('D', extra));
         }
     }
 

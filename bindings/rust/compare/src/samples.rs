@@ -6,6 +6,7 @@ use crate::damage;
 use crate::limits;
 use crate::programs::Programmer;
 use crate::random::Random;
+use crate::shears;
 
 /// A text, and the setting that it is written for.
 #[derive(Debug, PartialEq, Eq)]
@@ -33,7 +34,7 @@ fn text(random: &mut Random, seed: u64, setting: Setting) -> Vec<u8> {
     if random.one_in(1_000) {
         return limits::long_text(random, program());
     }
-    match random.below(100) {
+    match random.below(106) {
         0..=34 => program(),
         35..=59 => {
             let mut text = program();
@@ -51,7 +52,14 @@ fn text(random: &mut Random, seed: u64, setting: Setting) -> Vec<u8> {
         87..=90 => limits::far_places(random, setting),
         91..=92 => limits::range_ends(random, setting),
         93 => limits::wide_patterns(random, setting),
-        _ => limits::layout_states(random, setting),
+        94..=99 => limits::layout_states(random, setting),
+        _ => {
+            let mut text = shears::shears(random, setting);
+            if random.one_in(6) {
+                damage::damage(random, &mut text);
+            }
+            text
+        }
     }
 }
 
@@ -61,9 +69,9 @@ mod tests {
     use crate::pair::{plain, Pair};
 
     /// How many of 3,000 answers are met, by number.
-    fn tally(setting: Setting) -> [u32; 18] {
+    fn tally(setting: Setting) -> [u32; 19] {
         let mut pair = Pair::new(16_384);
-        let mut met = [0; 18];
+        let mut met = [0; 19];
         for seed in 0..3_000 {
             let list_length = if seed % 3 == 0 { 40 } else { 16_384 };
             let answer = pair.compare(setting.number(), &sample(seed).text, list_length);
@@ -83,7 +91,7 @@ mod tests {
     fn the_expanders_agree_and_refuse_in_many_ways() {
         for setting in [Setting::Hundredths, Setting::Millimetres] {
             let met = tally(setting);
-            let missing: Vec<_> = (0..18).filter(|&number| met[number] == 0).collect();
+            let missing: Vec<_> = (0..19).filter(|&number| met[number] == 0).collect();
             assert!(missing.is_empty(), "never met at {setting:?}: {missing:?}");
         }
     }

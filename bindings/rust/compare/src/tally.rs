@@ -19,7 +19,9 @@ struct Row {
 /// The answers of a comparison.
 #[derive(Default)]
 pub struct Tally {
-    answers: [Row; 18],
+    answers: [Row; 19],
+    /// Those accepted that have a G66.
+    sheared: Row,
     /// Those by 6 that have a length or an angle past the limit of setting 0 in their line.
     past_limit: Row,
     all: Row,
@@ -49,13 +51,18 @@ impl Tally {
     fn rows(&mut self, sample: &Sample, setting: i32, answer: Answer) -> impl Iterator<Item = &mut Row> {
         let is_past_limit = (setting, answer.number) == (0, 6) && has_long_number(&sample.text, answer.line);
         let past_limit = is_past_limit.then_some(&mut self.past_limit);
+        let is_sheared = answer.number == 0 && has_code(&without_spaces(&sample.text), b"66");
+        let sheared = is_sheared.then_some(&mut self.sheared);
         let answer = &mut self.answers[usize::from(answer.number)];
-        [answer, &mut self.all].into_iter().chain(past_limit)
+        [answer, &mut self.all].into_iter().chain(past_limit).chain(sheared)
     }
 
     pub fn print(&self) {
         println!("Texts by the setting that they are written for and the one at which they are expanded;");
-        println!("limit: those by 6 that have a length or an angle past the limit of setting 0.");
+        println!(
+            "G66: those accepted that have one; limit: those by 6 that have a length or an angle past the limit of"
+        );
+        println!("setting 0.");
         let titles = COLUMNS.map(|(written, expanded)| format!("{written} at {expanded}"));
         print_cells("answer", titles, ["in bodies", "calls"]);
         for (number, row) in self.answers.iter().enumerate() {
@@ -63,8 +70,10 @@ impl Tally {
                 0 => row.print("accepted"),
                 _ => row.print(&number.to_string()),
             }
-            if number == 6 {
-                self.past_limit.print("limit");
+            match number {
+                0 => self.sheared.print("G66"),
+                6 => self.past_limit.print("limit"),
+                _ => {}
             }
         }
         self.all.print("all");
@@ -90,18 +99,34 @@ fn is_in_body(text: &[u8], line: u64) -> bool {
     firsts.filter(|&&byte| byte == b'U' || byte == b'V').last() == Some(&b'U')
 }
 
-/// Whether a line has X, Y, I, J, D or, in G29, P with more than four digits, zeros in front not counted.
+/// Whether a line has X, Y, I, J, D, in G29 and G66 P, or in G66 Q with more than four digits, zeros in front not counted.
 fn has_long_number(text: &[u8], line: u64) -> bool {
     let mut lines = text.split(|&byte| byte == b'\n');
     let line = lines.nth(line.saturating_sub(1) as usize).unwrap_or_default();
-    let bytes: Vec<u8> = line.iter().copied().filter(|&byte| byte != b' ').collect();
-    let digits = |place: usize| {
-        let number = bytes[place + 1..].iter().skip_while(|byte| b"+-0".contains(byte));
-        number.take_while(|byte| byte.is_ascii_digit())
+    let bytes = without_spaces(line);
+    let letters: &[u8] = if has_code(&bytes, b"66") {
+        b"XYIJDPQ"
+    } else if has_code(&bytes, b"29") {
+        b"XYIJDP"
+    } else {
+        b"XYIJD"
     };
-    let is_g29 = (0..bytes.len()).any(|place| bytes[place] == b'G' && digits(place).eq(b"29"));
-    let letters: &[u8] = if is_g29 { b"XYIJDP" } else { b"XYIJD" };
-    (0..bytes.len()).any(|place| letters.contains(&bytes[place]) && digits(place).count() > 4)
+    (0..bytes.len()).any(|place| letters.contains(&bytes[place]) && digits(&bytes, place).count() > 4)
+}
+
+/// Whether there is a G word with a code, in bytes without spaces.
+fn has_code(bytes: &[u8], code: &[u8]) -> bool {
+    (0..bytes.len()).any(|place| bytes[place] == b'G' && digits(bytes, place).eq(code))
+}
+
+/// The digits of the word at a place, zeros in front not counted.
+fn digits(bytes: &[u8], place: usize) -> impl Iterator<Item = &u8> {
+    let number = bytes[place + 1..].iter().skip_while(|byte| b"+-0".contains(byte));
+    number.take_while(|byte| byte.is_ascii_digit())
+}
+
+fn without_spaces(bytes: &[u8]) -> Vec<u8> {
+    bytes.iter().copied().filter(|&byte| byte != b' ').collect()
 }
 
 #[cfg(test)]
@@ -118,8 +143,16 @@ mod tests {
     #[test]
     fn long_numbers_are_told() {
         let text = b"X9999\nX1 0 0 0 0\nY-010000T2\nI009999\nN10000\nJ9999.99\nG98X1Y1D10000\n\
-            G29I1J0P10000K1\nP10000G90G029\nG29I1J0P9999K10000\nG36I1P10000J1K0";
-        let lines: Vec<_> = (1..=11).filter(|&line| has_long_number(text, line)).collect();
-        assert_eq!(lines, [2, 3, 7, 8, 9]);
+            G29I1J0P10000K1\nP10000G90G029\nG29I1J0P9999K10000\nG36I1P10000J1K0\n\
+            G66I3J0P10000\nQ-1 00 00G066I3J0P2\nG66I3J0P2Q9999D9999\nG75W1Q10000";
+        let lines: Vec<_> = (1..=15).filter(|&line| has_long_number(text, line)).collect();
+        assert_eq!(lines, [2, 3, 7, 8, 9, 12, 13]);
+    }
+
+    #[test]
+    fn codes_are_told() {
+        let has_shear = |text: &[u8]| has_code(&without_spaces(text), b"66");
+        assert!(has_shear(b"G92X1Y1\nA1 G 0 6 6I1J1P1\nG50"));
+        assert!(!has_shear(b"G92X66Y1\nG6\nG660\nG\n66"));
     }
 }

@@ -56,6 +56,17 @@ fn in_hundredths() -> Vec<Row> {
         ("G75 lines", small_layouts(), USUAL),
         ("B lines", recalls(), USUAL),
         ("G28 lines of one hit", short_lines(), USUAL),
+        ("G28 lines of 999 hits", long_lines(), USUAL),
+        ("G66 lines of one hit", short_edges("I153J45.P101D-26", 1), USUAL),
+        ("G66 lines of two hits", short_edges("I152J45.P101", 2), USUAL),
+        ("G66 diagonal, whole degrees", diagonal("1190.", "31."), USUAL),
+        (
+            "G66 diagonal, degrees and hundredths",
+            diagonal("1194.", "31.25"),
+            USUAL,
+        ),
+        ("G66 of 58,822 steps, refused at once", most_steps("100."), USUAL),
+        ("G66 of 58,822 steps, refused on its way", most_steps("9999.99"), USUAL),
         ("4,096 copies of a part", copies(), USUAL),
         ("400 x 10,000 copies, empty part", empty_part("", 400), USUAL),
         ("  part of 40,000 spaces", empty_part(&spaces(40_000), 400), USUAL),
@@ -177,6 +188,32 @@ fn short_lines() -> String {
     format!("{G92}G70X100.Y100.T2\n{lines}{G50}")
 }
 
+/// Lines of as many hits as there can be, there and back, the hits as far from each other as those of the G66 diagonals.
+fn long_lines() -> String {
+    let lines = "G28I0.51J31.25K999\nG28I-0.51J31.25K999\n".repeat(2);
+    format!("{G92}G70X10.Y10.T2\n{lines}{G50}")
+}
+
+/// Edges with so many hits each, all from one start, until the list or the text is full.
+fn short_edges(numbers: &str, hits: usize) -> String {
+    let before = "G70X100.Y100.T2\n";
+    let line = format!("G66{numbers}\n");
+    let room = MOST_BYTES - G92.len() - before.len() - G50.len();
+    let lines = line.repeat((room / line.len()).min(USUAL / 4 / hits));
+    format!("{G92}{before}{lines}{G50}")
+}
+
+/// An edge across the ARIES-224 by the smallest tool.
+fn diagonal(length: &str, angle: &str) -> String {
+    format!("G92 X1000. Y600.\nG72 X-10. Y-10.\nG66 I{length} J{angle} P1.01 T2\n{G50}")
+}
+
+/// The edge with the most steps, from a place at Y0 on: from one on the sheet its first hit is off the sheet, from the
+/// farthest one many are on it.
+fn most_steps(x: &str) -> String {
+    format!("{G92}G72 X{x} Y0\nG66 I9999.99 J0 P1.01 D9999.99 T2\n{G50}")
+}
+
 fn copies() -> String {
     format!("{G92}G98 X5. Y5. I9. J9. P63 K63\nU1\nX1. Y1. T2\nV1\nG75 W1 Q4\n{G50}")
 }
@@ -206,12 +243,13 @@ mod tests {
     use crate::pair::Pair;
 
     #[test]
-    fn workloads_are_accepted() {
+    fn workloads_are_accepted_unless_their_names_say_otherwise() {
         let mut pair = Pair::new(USUAL);
         for workload in workloads() {
             let compared = pair.compare(workload.setting.number(), &workload.text, workload.list_length);
             let answer = compared.unwrap_or_else(|difference| panic!("{}", difference.describe()));
-            assert_eq!(answer.number, 0, "{}", workload.name);
+            let is_refused = workload.name.contains("refused");
+            assert_eq!(answer.number, if is_refused { 16 } else { 0 }, "{}", workload.name);
         }
     }
 }

@@ -2,10 +2,11 @@
 
 use crate::layouts::{Corner, Layout};
 use crate::order::Along;
-use crate::patterns::Pattern;
+use crate::patterns::{Pattern, TURN};
 use crate::press::{Mode, Point, Reading, Tool};
 use crate::refusal::Refusal;
 use crate::setting::Setting;
+use crate::shear::Shear;
 use crate::words::{letters, Code, Number, Words};
 
 /// The X and Y of a block, where they are named.
@@ -32,7 +33,7 @@ pub enum Action {
     Offset(Axes),
     /// G98
     Layout(Layout),
-    /// G26, G28, G29, G36, G37, stored in a memory if A stands before.
+    /// G26, G28, G29, G36, G37, G66, stored in a memory if A stands before.
     Pattern(Pattern, Option<u8>),
     /// B
     Memory(u8),
@@ -97,6 +98,7 @@ fn letters_of(code: i32) -> Option<Letters> {
         26 | 28 => (letters(b"IJK"), 0, letters(b"AT"), BOTH),
         29 | 36 | 37 => (letters(b"IJPK"), 0, letters(b"AT"), BOTH),
         50 => (0, 0, 0, &[]),
+        66 => (letters(b"IJP"), 0, letters(b"QDAT"), BOTH),
         70 => (0, XY, letters(b"T"), BOTH),
         72 => (0, XY, 0, BOTH),
         75 | 76 => (letters(b"WQ"), 0, 0, &[]),
@@ -222,6 +224,7 @@ fn measures_of(kind: Kind) -> u32 {
         Kind::Position | Kind::G(70 | 72 | 92 | 93) => XY,
         Kind::G(26 | 28 | 36 | 37) => letters(b"IJ"),
         Kind::G(29) => letters(b"IJP"),
+        Kind::G(66) => letters(b"IJPQD"),
         Kind::G(98) => letters(b"XYIJD"),
         _ => 0,
     }
@@ -311,6 +314,15 @@ fn pattern_of(code: i32, words: &Words) -> Result<Pattern, Refusal> {
             angle: value(b'J'),
             count: circle_count(words.number(b'K'))?,
         },
+        66 => Pattern::Shear {
+            shear: Shear {
+                length: value(b'I'),
+                along: value(b'P'),
+                across: words.get(b'Q').map_or(value(b'P'), |across| across.value),
+                extra: value(b'D'),
+            },
+            angle: value(b'J').rem_euclid(TURN) as u16,
+        },
         _ => Pattern::Grid {
             along: if code == 36 { Along::X } else { Along::Y },
             pitch: Point {
@@ -397,7 +409,7 @@ mod tests {
             "N5G92X600.Y600. X1 Y1T2 T2X1 G90X1 G91 N0G90 G70G91X1T2 G91G70Y1 G72X1 G90G93Y-1 G98X1Y1 \
              G98X1Y1I1J1P99K0D1 A1G28I1J1K1T9 G90A5G28I1J1K1 J1A2G26I1K-999 G29I1J1P-1.5K999 \
              G36I0P0J0K0 G37I-1P999J1K999 N9B5 N9W89 G75W1Q4 G076Q1W89 M0 M013 G50 N9999G050 U1 V89 \
-             X-0Y+0 G98X-0Y0",
+             X-0Y+0 G98X-0Y0 G66I1J1P1 A1G66I1J1P1Q1D1T9 D-1.5G90Q-2.P-2.A5G066J-1I0.01 G91G66I-0J0P0Q-1 N9D+1J1P1I1G66",
         );
     }
 
@@ -408,7 +420,9 @@ mod tests {
             "N1 T2 G90T2 G70T2 X1N1 X1X2 N1U60 N1V60 U1N1 B1T2 B1X1 G28I1J1K1X1 G28I1J1 G28A1I1J1K1 \
              G28G90A1I1J1K1 A1X1 A1 G91G93X1 G90G92X1Y1 G92X1 G98X1 G90G98X1Y1 G90G90 G90G91X1 \
              G28G29I1J1P1K1 G90G91G70X1 G+28I1J1K1 G28.I1J1K1 M2 M+0 M0. M0X1 G50X1 G75W1 G75W1Q1T1 \
-             G72X1T1 G25 C1 U1V1 M0W1",
+             G72X1T1 G25 C1 U1V1 M0W1 G66 G66I1J1P1K1 G66I1J1Q1D1 G66I1P1Q1D1 G66J1P1Q1D1 G66A1I1J1P1 G66I1J1P1X1 \
+             G66I1J1P1Q1Q1 G66I1J1P1W1 G66I1J1P1B1 G66G28I1J1P1K1 G90G91G66I1J1P1 G66.I1J1P1 G+66I1J1P1 I1J1P1Q1D1 \
+             G28I1J1K1Q1 G28I1J1K1D1 G36I1J1P1K1Q1",
         );
     }
 
@@ -419,7 +433,7 @@ mod tests {
             "N10000X1 N1.X1 X1T0 X1T100 X1T+2 X1T2. U0 U90 V90 W0 A6G28I1J1K1 A0G28I1J1K1 B0 B6 \
              G75W1Q5 G75W1Q0 G28I1J1K0 G28I1J1K1000 G28I1J1K-1 G26I1J1K0 G26I1J1K-0 G26I1J1K+1000 \
              G26I0J1K1 G26I-1J1K1 G29I0J1P1K1 G36I1J1P-1K1 G36I1J1P1000K1 G98X-1Y1 G98X1Y1D-1 \
-             G98X1Y1P100 G98X1Y1K+1",
+             G98X1Y1P100 G98X1Y1K+1 A6G66I1J1P1 G66I1J1P1T0 G66I1J1P1T2. N10000G66I1J1P1",
         );
     }
 
@@ -428,7 +442,9 @@ mod tests {
         let lines = "X10000 Y-10000 X1Y010000T2 G90X999999 G70X-999999 G72Y10000 G92X60000Y60000 G92X600Y10000 \
              G93X10000 G98X10000Y1 G98X1Y10000 G98X1Y1I10000 G98X1Y1J10000 G98X1Y1D10000 G28I10000J0K1 \
              G28I0J-10000K1 G29I10000J0P0K1 G29I1J10000P0K1 G29I1J0P10000K1 G26I10000J0K1 G26I1J10000K1 \
-             G36I10000P0J0K0 G36I0P0J10000K0 G37I-10000P0J0K0 G37I0P0J-10000K0 A1G28I0J10000K1";
+             G36I10000P0J0K0 G36I0P0J10000K0 G37I-10000P0J0K0 G37I0P0J-10000K0 A1G28I0J10000K1 \
+             G66I10000J0P2. G66I-10000J0P2. G66I1J10000P2. G66I1J0P10000 G66I1J0P-10000 G66I1J0P2.Q10000 \
+             G66I1J0P2.D10000 G66I1J0P2.D-010000";
         all_give_at(Setting::Millimetres, 6, lines);
         all_give_at(Setting::Hundredths, 0, lines);
     }
@@ -439,7 +455,7 @@ mod tests {
             0,
             "X9999Y-9999 X009999 G70X9999 G72Y-9999 G92X9999Y9999 G93X9999Y-9999 G98X9999Y9999I9999J9999D9999 \
              G28I-9999J9999K1 G29I9999J-9999P9999K1 G26I9999J9999K1 G36I9999P0J-9999K0 G37I-9999P0J009999K0 \
-             X9999.99Y-9999.99 G28I9999.99J-9999.99K1",
+             X9999.99Y-9999.99 G28I9999.99J-9999.99K1 G66I9999J-9999P9999Q-9999D009999 G66I9999.99J9999.99P-9999.99",
         );
     }
 

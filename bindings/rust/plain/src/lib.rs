@@ -18,6 +18,7 @@ mod press;
 mod program;
 mod refusal;
 mod setting;
+mod shear;
 mod sine;
 mod text;
 mod words;
@@ -33,7 +34,7 @@ use text::Text;
 pub enum Answer {
     /// The program is accepted and makes this many hits.
     Hits(usize),
-    /// The program is refused: the number of the refusal, 1 to 17, and its line, 0 for the text as a whole.
+    /// The program is refused: the number of the refusal, 1 to 18, and its line, 0 for the text as a whole.
     Refused { number: u8, line: u64 },
 }
 

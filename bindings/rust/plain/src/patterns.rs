@@ -1,12 +1,13 @@
-//! Patterns: lines, arcs, circles and grids of hits.
+//! Patterns: lines, arcs, circles, grids and shears of hits.
 
 use crate::order::Along;
 use crate::press::{is_far, Point, Press};
 use crate::refusal::Refusal;
+use crate::shear::Shear;
 use crate::sine::Direction;
 
 /// A full turn, in hundredths of a degree.
-const TURN: i32 = 36_000;
+pub const TURN: i32 = 36_000;
 
 /// A pattern's code and numbers.
 #[derive(Clone, Copy)]
@@ -29,13 +30,15 @@ pub enum Pattern {
         columns: i32,
         rows: i32,
     },
+    /// G66; the angle is within a turn, so that no pattern takes more room than a grid.
+    Shear { shear: Shear, angle: u16 },
 }
 
 impl Pattern {
     /// Makes the hits from the waiting origin or the current point on; the current point becomes the pattern's end.
     pub fn run(self, press: &mut Press) -> Result<(), Refusal> {
         let start = press.state.waiting.take().unwrap_or(press.state.at);
-        self.judge_reach()?;
+        self.judge()?;
         press.state.at = match self {
             Pattern::Line { pitch, angle, count } => punch_line(press, start, pitch, angle, count)?,
             Pattern::Arc {
@@ -59,18 +62,25 @@ impl Pattern {
                 let place = |column, row| start.plus(column * pitch.x, row * pitch.y);
                 punch_grid(press, along, columns, rows, place)?
             }
+            Pattern::Shear { shear, angle } => {
+                for (x, y) in shear.offsets(Direction::of(i32::from(angle))) {
+                    press.hit(start.plus(x, y))?;
+                }
+                start
+            }
         };
         Ok(())
     }
 
-    /// The reach of lines and grids, judged before their hits; refusal 15.
-    fn judge_reach(self) -> Result<(), Refusal> {
+    /// What is judged before the hits: the reach of lines and grids, refusal 15, and the numbers of a shear, refusal 18.
+    fn judge(self) -> Result<(), Refusal> {
         let is_too_far = match self {
             Pattern::Line { pitch, count, .. } => is_far(count * pitch),
             Pattern::Grid {
                 pitch, columns, rows, ..
             } => is_far(columns * pitch.x) || is_far(rows * pitch.y),
             Pattern::Arc { .. } | Pattern::Circle { .. } => false,
+            Pattern::Shear { shear, .. } => return shear.judge(),
         };
         if is_too_far {
             Err(Refusal::TooFar)
@@ -134,7 +144,13 @@ fn punch_grid(
 
 #[cfg(test)]
 mod tests {
-    use super::circle_turn;
+    use super::{circle_turn, Pattern};
+
+    #[test]
+    fn patterns_take_little_room() {
+        // each copy of a part begins with five of them
+        assert_eq!(size_of::<Option<Pattern>>(), 20);
+    }
 
     #[test]
     fn turns_are_rounded_halves_up() {

@@ -1,4 +1,4 @@
-//! The seventeen refusals, in checking order.
+//! The eighteen refusals, in checking order, but that 18 is judged after 13.
 
 /// Why a program is refused; the value is the number of the refusal.
 #[derive(Clone, Copy, Debug, PartialEq, Eq)]
@@ -21,6 +21,7 @@ pub enum Refusal {
     TooFar = 15,
     OutOfRange = 16,
     ListFull = 17,
+    ShearUnfit = 18,
 }
 
 /// A refusal and the line that it is given for.

@@ -106,6 +106,32 @@ impl Direction {
         let part = |sine: i32| in_units(i64::from(distance) * i64::from(sine)) as i32;
         (part(self.cosine), part(self.sine))
     }
+
+    /// The offsets in X and Y of a place that lies `along / parts` in this direction and `left / parts` to the left of it.
+    pub fn offset_aside(self, along: i64, left: i64, parts: i64) -> (i32, i32) {
+        let (cosine, sine) = (i128::from(self.cosine), i128::from(self.sine));
+        let (along, left) = (i128::from(along), i128::from(left));
+        let denominator = parts * UNIT;
+        (
+            nearest(along * cosine - left * sine, denominator),
+            nearest(along * sine + left * cosine, denominator),
+        )
+    }
+}
+
+/// A fraction with an even denominator as the nearest whole number, halves away from zero.
+fn nearest(numerator: i128, denominator: i64) -> i32 {
+    let half = i128::from(denominator / 2);
+    let raised = if numerator < 0 {
+        numerator - half
+    } else {
+        numerator + half
+    };
+    // Most numerators have 64 bits, and dividing these is faster.
+    match i64::try_from(raised) {
+        Ok(raised) => (raised / denominator) as i32,
+        Err(_) => (raised / i128::from(denominator)) as i32,
+    }
 }
 
 #[cfg(test)]
@@ -160,5 +186,31 @@ mod tests {
         assert_eq!(diagonal.offset(5_000), (3_536, 3_536));
         assert_eq!(diagonal.offset(-5_000), (-3_536, -3_536));
         assert_eq!(Direction::of(3_000).offset(-1), (-1, -1));
+    }
+
+    #[test]
+    fn places_aside_are_rounded_once() {
+        let rightwards = Direction::of(0);
+        assert_eq!(rightwards.offset_aside(7, 3, 2), (4, 2));
+        assert_eq!(rightwards.offset_aside(-7, -3, 2), (-4, -2));
+        assert_eq!(rightwards.offset_aside(7, 8, 3), (2, 3));
+        assert_eq!(Direction::of(9_000).offset_aside(7, 3, 2), (-2, 4));
+        // 50.5 x 0.866025404 - 50.5 x 0.5 is 18.48; of rounded parts it would be 44 - 25
+        assert_eq!(Direction::of(3_000).offset_aside(101, 101, 2), (18, 69));
+    }
+
+    #[test]
+    fn fractions_of_any_size_are_rounded_alike() {
+        // from 79,000 on the numerators have more than 64 bits
+        let denominator = 117_644 * UNIT;
+        for whole in [0, 1, -1, 5, 78_000, -78_000, 79_000, -79_000, 1_999_999, -1_999_999] {
+            let numerator = i128::from(whole) * i128::from(denominator);
+            let half = i128::from(denominator / 2);
+            assert_eq!(nearest(numerator, denominator), whole);
+            assert_eq!(nearest(numerator + half - 1, denominator), whole);
+            assert_eq!(nearest(numerator - half + 1, denominator), whole);
+        }
+        assert_eq!(nearest(i128::from(5 * UNIT), 2 * UNIT), 3);
+        assert_eq!(nearest(i128::from(-5 * UNIT), 2 * UNIT), -3);
     }
 }
