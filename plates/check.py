@@ -2,7 +2,8 @@
 """Holds the sample plates to their drawings, and looks for places that are hit twice.
 
     plates/check.py            each plate of this folder: its hits are those of its drawing, no place is hit twice with
-                               one tool, holes lie within the plate, and no two of them meet but the hits of a slot
+                               one tool, holes lie within the plate, no two of them meet but the hits of a slot, and
+                               tools that cut an edge lie against it from outside
     plates/check.py LISTING..  listings that hitlist printed (- for standard input): no place twice with one tool
 
 It ends with 1 if something is wrong. The hits are those of the expander in crates/cases/derive, so nothing has to be
@@ -17,8 +18,9 @@ CASES = os.path.join(HOME, '../crates/cases')
 sys.dont_write_bytecode = True
 sys.path.insert(0, os.path.join(CASES, 'derive'))
 
-# The diameters of the tools, in hundredths of a millimetre.
+# The diameters of the round tools and the sides of the rectangular ones along X and Y, in hundredths of a millimetre.
 DIAMETERS = {2: 700, 3: 300, 4: 350, 5: 450, 6: 660, 7: 400, 8: 550, 9: 500, 14: 2800}
+SIDES = {10: (5000, 500), 11: (500, 5000)}
 
 
 def twice(hits):
@@ -42,6 +44,18 @@ def outside(drawing):
     return said
 
 
+def off_the_edge(drawing):
+    """Cuts whose tool does not lie against the plate from outside: into the plate, or away from it."""
+    width, height = (round(100 * side) for side in drawing.size)
+    said = []
+    for x, y, tool, mode in drawing.cuts:
+        wide, high = SIDES[tool]
+        gap = max(-x - wide // 2, x - wide // 2 - width, -y - high // 2, y - high // 2 - height)
+        if gap != 0:
+            said.append('the cut at %d %d is not against the edge' % (x, y))
+    return said
+
+
 def least_metal(drawing):
     """The least metal between two holes, in hundredths; the hits of a slot are one hole."""
     holes = drawing.holes
@@ -57,7 +71,7 @@ def check_plate(name, drawing):
     number, hits = expand(text, 16384)
     if number:
         return ['refusal %d in line %d' % (number, hits)]
-    said = twice(hits) + outside(drawing)
+    said = twice(hits) + outside(drawing) + off_the_edge(drawing)
     if hits != drawing.hits():
         said.append('the hits are not those of the drawing')
     if least_metal(drawing) <= 0:
@@ -77,7 +91,7 @@ def check_plates():
         wrong += ['%s: %s' % (name, what) for what in said]
         if not said:
             metal = least_metal(drawing) / 100
-            print('%s: %d hits, as drawn, no place twice, %.2f mm between holes' % (name, len(drawing.holes), metal))
+            print('%s: %d hits, as drawn, no place twice, %.2f mm between holes' % (name, len(drawing.hits()), metal))
     return wrong
 
 
