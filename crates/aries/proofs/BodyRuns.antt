@@ -16,7 +16,8 @@ use Rattle.aries.specs.declared.block.Axes.{Axes}
 use Rattle.aries.specs.declared.block.Pattern.{Pattern}
 use Rattle.aries.specs.declared.block.Pattern.the-variants.{Line, Arc, Circle, Grid, Shear}
 use Rattle.aries.specs.declared.block.Direct.{Direct}
-use Rattle.aries.specs.declared.block.Direct.the-variants.{Lone, Punch, Move, PatternOrigin, RunPattern, Recall, Nibble, Idle}
+use Rattle.aries.specs.declared.block.Direct.the-variants.{Lone, Punch, Move, PatternOrigin, RunPattern, Recall, Nibble, Idle, Stop}
+use Rattle.aries.specs.declared.entry.Entry.the-variants as Entry
 use Rattle.aries.specs.declared.block.Block.{Block}
 use Rattle.aries.specs.declared.block.Block.the-variants as Block
 use Rattle.aries.specs.declared.block.Instruction.{Instruction}
@@ -33,7 +34,7 @@ use Rattle.aries.specs.Text.{lines}
 use Rattle.aries.specs.Machine.{inRange}
 use Rattle.aries.specs.Reader.{readerOf}
 use Rattle.aries.specs.Blocks.{decode}
-use Rattle.aries.specs.Hits.{Made, noHit, mapAfter}
+use Rattle.aries.specs.Entries.{Made, noEntry, mapAfter}
 use Rattle.aries.specs.Judging.{Judging, room, judged, near}
 use Rattle.aries.specs.Moves.{_⊕_, movedTo, waitingFor, inMode, choosing, remembering, measuring, dropping, axisTarget, target, withState, hitOf, punch, position, move, setPatternOrigin}
 use Rattle.aries.specs.Patterns.{hitOffset, hitCount, reachIsNear, shearIsFit, punches, startAt, startOf, ending, pattern, runPattern, emptyMemory, recalled, recall}
@@ -42,7 +43,7 @@ use Rattle.aries.specs.CopyRuns.{bytesOf}
 use Rattle.aries.proofs.Outcomes.{>>=-assoc}
 use Rattle.aries.proofs.Points.{+ℤ-swap, ⊕-swap}
 use Rattle.aries.proofs.Counts.{Counts, anotherBlock}
-use Rattle.aries.proofs.Follows.{movedWaiting, movedState, movedFrame, progress, Looser, alike, Follows, refusals, Beside, follows-no-hit, follows-need, follows-then, follows-map, follows-counted, follows-hit}
+use Rattle.aries.proofs.Follows.{movedWaiting, movedState, movedFrame, progress, Looser, alike, Follows, refusals, Beside, follows-no-entry, follows-need, follows-then, follows-map, follows-counted, follows-entry}
 
 -- ---- Points named by a moved state are moved
 
@@ -101,7 +102,7 @@ module _ {E : Type 0} (j : Judging) (bounds : Bool) (v : Point) (places : ℕ) (
         follows-need 14 line line′ (alike {t = ltb 0 (s .tool)})
         (follows-need 15 line line′ (w .nearness p)
         (follows-need 16 line line′ (w .coverage f p)
-        (follows-hit 17 line (hitOf s p) (movedTo s p) n n′)))
+        (follows-entry 17 line (hitOf s p) (movedTo s p) n n′)))
 
     position-follows : (a : Axes) (t : ℕ) → position j (moved f) line a t beside position free f line′ a t
     unfolding position
@@ -116,7 +117,7 @@ module _ {E : Type 0} (j : Judging) (bounds : Bool) (v : Point) (places : ℕ) (
     moveTo t q g = do
       _ ← need (judged (j .bounds) (near q)) 15 line
       _ ← need (judged (j .bounds) (inRange (moved f) q)) 16 line
-      noHit (withState g (movedTo (dropping (choosing (g .state) t)) q))
+      noEntry (withState g (movedTo (dropping (choosing (g .state) t)) q))
 
     move-follows : (a : Axes) (t : ℕ) → move j (moved f) line a t beside move free f line′ a t
     unfolding move moveTo
@@ -125,13 +126,13 @@ module _ {E : Type 0} (j : Judging) (bounds : Bool) (v : Point) (places : ℕ) (
         (sym (target-moves v places f s a))
         (follows-need 15 line line′ (w .nearness (target f s a))
         (follows-need 16 line line′ (w .coverage f (target f s a))
-        (follows-no-hit (movedTo (dropping (choosing s t)) (target f s a)) n n′)))
+        (follows-no-entry (movedTo (dropping (choosing s t)) (target f s a)) n n′)))
 
     -- a waiting origin at a point
     waitAt : Point → Progress → Out (Made Progress)
     waitAt q g = do
       _ ← need (judged (j .bounds) (near q)) 15 line
-      noHit (withState g (waitingFor (g .state) (At q)))
+      noEntry (withState g (waitingFor (g .state) (At q)))
 
     setPatternOrigin-follows : (a : Axes) → setPatternOrigin j (moved f) line a beside setPatternOrigin free f line′ a
     unfolding setPatternOrigin waitAt
@@ -139,13 +140,13 @@ module _ {E : Type 0} (j : Judging) (bounds : Bool) (v : Point) (places : ℕ) (
         subst (λ (q : Point). Follows E j v n n′ (waitAt q (progress (movedState v s) n)) (setPatternOrigin free f line′ a (progress s n′)))
         (sym (target-moves v places f s a))
         (follows-need 15 line line′ (w .nearness (target f s a))
-        (follows-no-hit (waitingFor s (At (target f s a))) n n′))
+        (follows-no-entry (waitingFor s (At (target f s a))) n n′))
 
     -- ---- Patterns
 
     punches-follow : (p : Pattern) (start : Point) (k i : ℕ) → punches j (moved f) line p (start ⊕ v) k i beside punches free f line′ p start k i
     unfolding punches
-    punches-follow p start zero i s n n′ = follows-no-hit s n n′
+    punches-follow p start zero i s n n′ = follows-no-entry s n n′
     punches-follow p start (suc k) i s n n′ =
         follows-then (punches j (moved f) line p (start ⊕ v) k (suc i)) (punches free f line′ p start k (suc i))
         (subst
@@ -188,14 +189,15 @@ module _ {E : Type 0} (j : Judging) (bounds : Bool) (v : Point) (places : ℕ) (
 
     carryDirect-follows : (d : Direct) → carryDirect j (moved f) line d beside carryDirect free f line′ d
     unfolding carryDirect
-    carryDirect-follows Lone s n n′ = follows-no-hit (dropping s) n n′
+    carryDirect-follows Lone s n n′ = follows-no-entry (dropping s) n n′
     carryDirect-follows (Punch a t) s n n′ = position-follows a t s n n′
     carryDirect-follows (Move a t) s n n′ = move-follows a t s n n′
     carryDirect-follows (PatternOrigin a) s n n′ = setPatternOrigin-follows a s n n′
     carryDirect-follows (RunPattern p t a) s n n′ = runPattern-follows p t a s n n′
     carryDirect-follows (Recall k) s n n′ = recall-follows k s n n′
-    carryDirect-follows (Nibble b) s n n′ = follows-no-hit (inMode s b) n n′
-    carryDirect-follows Idle s n n′ = follows-no-hit s n n′
+    carryDirect-follows (Nibble b) s n n′ = follows-no-entry (inMode s b) n n′
+    carryDirect-follows Idle s n n′ = follows-no-entry s n n′
+    carryDirect-follows (Stop optional) s n n′ = follows-entry 17 line (Entry.Stop optional) s n n′
 
   -- ---- Blocks and lines, for whatever calls do that follow each other
 
@@ -246,12 +248,12 @@ module _ {E : Type 0} (j : Judging) (bounds : Bool) (v : Point) (places : ℕ) (
 
     runLine-follows : (line line′ : ℕ) (l : List ℕ) → runLine j c (moved f) line l beside runLine free c′ f line′ l
     unfolding runBlock
-    runLine-follows line line′ [] s n n′ = follows-no-hit s n n′
+    runLine-follows line line′ [] s n n′ = follows-no-entry s n n′
     runLine-follows line line′ (b ∷ bs) s n n′ = runBlock-follows line line′ (b ∷ bs) s n n′
 
     runLines-follow : (ls : List (List ℕ)) (line line′ : ℕ) → runLines j c (moved f) line ls beside runLines free c′ f line′ ls
     unfolding runLines
-    runLines-follow [] line line′ s n n′ = follows-no-hit s n n′
+    runLines-follow [] line line′ s n n′ = follows-no-entry s n n′
     runLines-follow (l ∷ ls) line line′ s n n′ =
         follows-then (runLines j c (moved f) (suc line) ls) (runLines free c′ f (suc line′) ls)
         (runLine-follows line line′ l s n n′) (runLines-follow ls (suc line) (suc line′))

@@ -7,10 +7,10 @@ use Rattle.aries.specs.declared.state.Status.the-variants.{Passed, Refus
 use Rattle.aries.specs.declared.state.Outcome.{Outcome}
 use Rattle.aries.specs.declared.state.Progress.{Progress}
 use Rattle.aries.specs.Outcome.{Out, done, refused}
-use Rattle.aries.specs.Hits.{Made, noHit}
+use Rattle.aries.specs.Entries.{Made, noEntry}
 use Rattle.aries.specs.Judging.{Judging, limits}
 use Rattle.aries.specs.Runs.{Lent, over, Carried}
-use Rattle.aries.proofs.Runs.{ran-refused, ran-made, ran-no-hit}
+use Rattle.aries.proofs.Runs.{ran-refused, ran-made, ran-no-entry}
 
 module _ (f : Frame) (what : Judging → Progress → Out (Made Progress)) where
   -- a refusal on both sides
@@ -19,15 +19,15 @@ module _ (f : Frame) (what : Judging → Progress → Out (Made Progress)) where
       → what (limits (f .job)) g ≡ refused number line → Carried r f before after g what
   carried-refused e o = rw (e, o) ran-refused
 
-  -- nothing is hit
-  pub carried-no-hit :
+  -- no entry is made
+  pub carried-no-entry :
       {r : Outcome} {g left : Progress} {l : Lent} → r ≡ record { status = Passed; progress = left }
-      → left .hits ≡ g .hits → what (limits (f .job)) g ≡ noHit left → Carried r f l l g what
-  carried-no-hit e h o = rw (e, o, ← h) ran-no-hit
+      → left .entries ≡ g .entries → what (limits (f .job)) g ≡ noEntry left → Carried r f l l g what
+  carried-no-entry e h o = rw (e, o, ← h) ran-no-entry
 
-  -- hits and a progress that are made outright
+  -- entries and a progress that are made outright
   pub carried-made :
       {r : Outcome} {m : Made Progress} {g : Progress} {before after : Lent} → r ≡ record { status = Passed; progress = m .after }
-      → what (limits (f .job)) g ≡ done m → after ≡ over before (g .hits) (m .hits) → m .after .hits ≡ g .hits + length (m .hits)
-      → (g .hits ≤ f .job .places → m .after .hits ≤ f .job .places) → Carried r f before after g what
+      → what (limits (f .job)) g ≡ done m → after ≡ over before (g .entries) (m .entries) → m .after .entries ≡ g .entries + length (m .entries)
+      → (g .entries ≤ f .job .places → m .after .entries ≤ f .job .places) → Carried r f before after g what
   carried-made e o written counted fitted = rw (e, o) (ran-made written counted fitted)

@@ -1,4 +1,4 @@
--- All copies of a run, one after the other: their hits, and when none of them is refused.
+-- All copies of a run, one after the other: their entries, and when none of them is refused.
 use mathlib.Core.Path.{_≡_, refl, sym, ap, ap₂, _∙_, subst}
 use mathlib.Core.Bool.{Bool, true, false}
 use mathlib.Core.List.{[], _++_, map}
@@ -9,12 +9,12 @@ use lib.Dec.{ltb}
 use Rattle.aries.specs.declared.point.Point.{Point}
 use Rattle.aries.specs.declared.state.Progress.{Progress}
 use Rattle.aries.specs.Outcome.{Out, done}
-use Rattle.aries.specs.Hits.{Made}
+use Rattle.aries.specs.Entries.{Made}
 use Rattle.aries.specs.Judging.{Judging, near, limits}
 use Rattle.aries.specs.Macros.{runBody}
 use Rattle.aries.specs.Layouts.{copy, copyAll}
 use Rattle.aries.specs.Setup.{ordinaryFrame}
-use Rattle.aries.specs.CopyRuns.{Circumstances, called, Accepted, hitsOf, movedBy, joined, SamePart}
+use Rattle.aries.specs.CopyRuns.{Circumstances, called, Accepted, entriesOf, movedBy, joined, SamePart}
 use Rattle.aries.proofs.Outcomes.{done-injective, need-accepted, Both, then-accepted, accepted-then}
 use Rattle.aries.proofs.Counts.{Counts, countsOf, nothing, _⊞_, times, times-suc, Up, up-unique, Fit, fit-nothing, fit-front, fit-back, fit-joined}
 use Rattle.aries.proofs.Follows.{Followed, follows-accepted, follows-fitting}
@@ -73,7 +73,7 @@ module _ (c base : Circumstances) (same : SamePart c base) where
         passes = record { is-near = q .0; is-accepted = (b .other, b .other-is) };
       }
 
-  -- ---- The hits of all copies
+  -- ---- The entries of all copies
 
   module _ (place : ℕ → Point) where
     -- the first copy and the others
@@ -82,18 +82,18 @@ module _ (c base : Circumstances) (same : SamePart c base) where
     unfolding copyAll
     parted k m g r e = then-accepted (copyTo c (place m) g) (copies c place k (suc m)) r e
 
-    -- for each m in turn, the own hits moved to its place
-    pub copies-hits :
+    -- for each m in turn, the own entries moved to its place
+    pub copies-entries :
         (n′ : Counts) (k m : ℕ) (g : Progress) (r : Made Progress) → copies c place k m g ≡ done r
-        → r .hits ≡ joined (λ i. map (movedBy (place i)) (hitsOf (ownFrom base n′))) k m
+        → r .entries ≡ joined (λ i. map (movedBy (place i)) (entriesOf (ownFrom base n′))) k m
     unfolding copyAll joined
-    copies-hits n′ zero m g r e = sym (ap hitsOf e)
-    copies-hits n′ (suc k) m g r e =
+    copies-entries n′ zero m g r e = sym (ap entriesOf e)
+    copies-entries n′ (suc k) m g r e =
         let t = parted k m g r e in
         let o = copy-accepted (place m) g n′ (t .first) (t .first-is) .own in
-        t .hits-are
-        ∙ ap₂ _++_ (o .together .moved ∙ ap (λ (y : Out (Made Progress)). map (movedBy (place m)) (hitsOf y)) (sym (o .other-is)))
-        (copies-hits n′ k (suc m) (t .first .after) (t .second) (t .second-is))
+        t .entries-are
+        ∙ ap₂ _++_ (o .together .moved ∙ ap (λ (y : Out (Made Progress)). map (movedBy (place m)) (entriesOf y)) (sym (o .other-is)))
+        (copies-entries n′ k (suc m) (t .first .after) (t .second) (t .second-is))
 
     -- where there are copies and they are accepted, so is the own run
     pub copies-own : (n′ : Counts) (k m : ℕ) (g : Progress) (r : Made Progress) → 0 < k → copies c place k m g ≡ done r → Own base n′
@@ -158,13 +158,13 @@ module _ (c base : Circumstances) (same : SamePart c base) where
 
     pub accepted-copies : (place : ℕ → Point) (k m : ℕ) (g : Progress) → AllPass place k m (countsOf g) → Accepted (copies c place k m g)
     unfolding copyAll
-    accepted-copies place zero m g x = (record { hits = []; after = g }, refl)
+    accepted-copies place zero m g x = (record { entries = []; after = g }, refl)
     accepted-copies place (suc k) m g x =
         let f : Fit (judging c) (countsOf g) (w .by ⊞ times k (w .by)) = subst (Fit (judging c) (countsOf g)) (times-suc k (w .by)) (x .fit) in
         let y = copy-fitting (place m) g (x .passing m (omega arith) (omega arith)) (fit-front (w .by) (times k (w .by)) f) in
         let u = copy-fits (copy-accepted (place m) g n′ (y .0) (y .1)) in
         let z = accepted-copies place k (suc m) (y .0 .after)
         (record { passing = λ i p q. x .passing i (omega arith) (omega arith); fit = fit-back (w .by) (times k (w .by)) (u .0) f }) in (
-          record { hits = y .0 .hits ++ z .0 .hits; after = z .0 .after },
+          record { entries = y .0 .entries ++ z .0 .entries; after = z .0 .after },
           accepted-then (copyTo c (place m) g) (copies c place k (suc m)) (y .0) (z .0) (y .1) (z .1),
         )

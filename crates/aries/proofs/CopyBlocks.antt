@@ -16,7 +16,7 @@ use Rattle.aries.specs.declared.setup.Stage.{Stage}
 use Rattle.aries.specs.declared.setup.Program.{Program}
 use Rattle.aries.specs.declared.state.Progress.{Progress}
 use Rattle.aries.specs.Outcome.{Out, _>>=_, need, passes}
-use Rattle.aries.specs.Hits.{Made}
+use Rattle.aries.specs.Entries.{Made}
 use Rattle.aries.specs.Judging.{Judging, limits}
 use Rattle.aries.specs.Reader.{readerOf}
 use Rattle.aries.specs.Blocks.{decode}

@@ -50,10 +50,10 @@ laid = withOrigin bare (LaidOut sheet) zeroPoint
 abbrev stored : Macros
 stored = storing noMacros 60 38 47 4
 
--- so many blocks carried out, and no hit
+-- so many blocks carried out, and no entry
 abbrev program : Stage → Setup → Macros → ℕ → Program
 program t s m n =
-    record { stage = t; setup = s; macros = m; progress = record { state = movedTo freshState (pointAt (pos 60000) (pos 60000)); blocks = n; hits = 0 } }
+    record { stage = t; setup = s; macros = m; progress = record { state = movedTo freshState (pointAt (pos 60000) (pos 60000)); blocks = n; entries = 0 } }
 
 -- a text that has these lines first comes to the line behind them
 comes :
@@ -63,11 +63,11 @@ comes :
 unfolding bytes runBlockOutside
 comes text ls e =
     let at1 : Reached job text 0 1 _ (freshProgram job) = subst (λ (k : List (List ℕ)). Reached job text 0 1 k (freshProgram job)) e start in
-    let at2 : Reached job text 14 2 _ (program Running bare noMacros 1) = next {m = record { hits = []; after = program Running bare noMacros 1 }} at1 refl in
-    let at3 : Reached job text 34 3 _ (program Running laid noMacros 2) = next {m = record { hits = []; after = program Running laid noMacros 2 }} at2 refl in
-    let at4 : Reached job text 38 4 _ (program Storing laid stored 3) = next {m = record { hits = []; after = program Storing laid stored 3 }} at3 refl in
-    let at5 : Reached job text 47 5 _ (program Storing laid stored 3) = next {m = record { hits = []; after = program Storing laid stored 3 }} at4 refl in
-    next {m = record { hits = []; after = program Running laid stored 3 }} at5 refl
+    let at2 : Reached job text 14 2 _ (program Running bare noMacros 1) = next {m = record { entries = []; after = program Running bare noMacros 1 }} at1 refl in
+    let at3 : Reached job text 34 3 _ (program Running laid noMacros 2) = next {m = record { entries = []; after = program Running laid noMacros 2 }} at2 refl in
+    let at4 : Reached job text 38 4 _ (program Storing laid stored 3) = next {m = record { entries = []; after = program Storing laid stored 3 }} at3 refl in
+    let at5 : Reached job text 47 5 _ (program Storing laid stored 3) = next {m = record { entries = []; after = program Storing laid stored 3 }} at4 refl in
+    next {m = record { entries = []; after = program Running laid stored 3 }} at5 refl
 
 -- ---- What the block finds
 

@@ -1,5 +1,5 @@
 -- A run that is accepted: its part is stored, a layout is in force, and it is the copies at the layout's places; so its
--- hits are the part's own hits, moved to each place in turn.
+-- entries are the part's own entries, moved to each place in turn.
 use mathlib.Core.Path.{_≡_, refl, sym, ap, ap₂, _∙_}
 use mathlib.Core.Bool.{Bool}
 use mathlib.Core.List.{map}
@@ -12,14 +12,14 @@ use Rattle.aries.specs.declared.setup.Sheet.{Sheet}
 use Rattle.aries.specs.declared.setup.Sheet.the-variants.{Plain, LaidOut}
 use Rattle.aries.specs.declared.state.Progress.{Progress}
 use Rattle.aries.specs.Outcome.{Out, done, _>>=_, given}
-use Rattle.aries.specs.Hits.{Made}
+use Rattle.aries.specs.Entries.{Made}
 use Rattle.aries.specs.Macros.{Body, runBody}
 use Rattle.aries.specs.Layouts.{copyCount, copyPlace, copyAll, copyOver, copyPart}
-use Rattle.aries.specs.CopyRuns.{Circumstances, run, hitsOf, movedBy, joined, SamePart}
+use Rattle.aries.specs.CopyRuns.{Circumstances, run, entriesOf, movedBy, joined, SamePart}
 use Rattle.aries.proofs.Outcomes.{refused≢done}
 use Rattle.aries.proofs.Counts.{Counts}
 use Rattle.aries.proofs.Parts.{ownFrom}
-use Rattle.aries.proofs.Copies.{judging, copies, copies-hits}
+use Rattle.aries.proofs.Copies.{judging, copies, copies-entries}
 
 module _ (vertical : Bool) (c : Circumstances) where
   -- the block
@@ -70,11 +70,11 @@ module _ (vertical : Bool) (c : Circumstances) where
     pub run-copies : (l : Layout) → c .setup .sheet ≡ LaidOut l → copiesOver l ≡ done m
     run-copies l s = sym (over-is-copies (run-stored .0) l (run-stored .1)) ∙ sym (ap₂ over (run-stored .1) s) ∙ sym run-is-over ∙ e
 
-    -- its hits, by the own run of whichever run has the same part, whatever was counted before
-    pub run-hits :
+    -- its entries, by the own run of whichever run has the same part, whatever was counted before
+    pub run-entries :
         (base : Circumstances) → SamePart c base → (n : Counts) (l : Layout) → c .setup .sheet ≡ LaidOut l
-        → hitsOf (run vertical c) ≡ joined (λ i. map (movedBy (place l i)) (hitsOf (ownFrom base n))) (copyCount l) 0
-    run-hits base same n l s = ap hitsOf e ∙ copies-hits c base same (place l) n (copyCount l) 0 (c .before) m (run-copies l s)
+        → entriesOf (run vertical c) ≡ joined (λ i. map (movedBy (place l i)) (entriesOf (ownFrom base n))) (copyCount l) 0
+    run-entries base same n l s = ap entriesOf e ∙ copies-entries c base same (place l) n (copyCount l) 0 (c .before) m (run-copies l s)
 
   -- copies that are accepted make an accepted run
   pub copies-run :

@@ -1,4 +1,4 @@
--- Counts of blocks and hits: how far they go up, and whether what is added fits under the limits.
+-- Counts of blocks and entries: how far they go up, and whether what is added fits under the limits.
 use mathlib.Core.Path.{_≡_, refl, ap₂, subst}
 use mathlib.Core.Bool.{Bool, true, false}
 use mathlib.Core.Option.{Option, some}
@@ -13,13 +13,13 @@ use Rattle.aries.specs.Judging.{Judging, room}
 
 pub record Counts : Type 0 where
   pub blocks : ℕ
-  pub hits : ℕ
+  pub entries : ℕ
 
 abbrev pub counts : ℕ → ℕ → Counts
-counts b h = record { blocks = b; hits = h }
+counts b e = record { blocks = b; entries = e }
 
 abbrev pub countsOf : Progress → Counts
-countsOf g = counts (g .blocks) (g .hits)
+countsOf g = counts (g .blocks) (g .entries)
 
 abbrev pub nothing : Counts
 nothing = counts 0 0
@@ -27,61 +27,61 @@ nothing = counts 0 0
 abbrev pub _⊞_ : Counts → Counts → Counts
 
 infixl 60 _⊞_
-d ⊞ e = counts (d .blocks + e .blocks) (d .hits + e .hits)
+d ⊞ e = counts (d .blocks + e .blocks) (d .entries + e .entries)
 
 abbrev pub times : ℕ → Counts → Counts
-times k d = counts (k * d .blocks) (k * d .hits)
+times k d = counts (k * d .blocks) (k * d .entries)
 
 pub times-suc : (k : ℕ) (d : Counts) → times (suc k) d ≡ d ⊞ times k d
-times-suc k d = ap₂ counts more-blocks more-hits
+times-suc k d = ap₂ counts more-blocks more-entries
   where
     more-blocks : suc k * d .blocks ≡ d .blocks + k * d .blocks
     more-blocks = omega arith
 
-    more-hits : suc k * d .hits ≡ d .hits + k * d .hits
-    more-hits = omega arith
+    more-entries : suc k * d .entries ≡ d .entries + k * d .entries
+    more-entries = omega arith
 
 -- one more of one kind
 abbrev pub anotherBlock : Counts → Counts
-anotherBlock n = counts (n .blocks + 1) (n .hits)
+anotherBlock n = counts (n .blocks + 1) (n .entries)
 
-abbrev pub anotherHit : Counts → Counts
-anotherHit n = counts (n .blocks) (n .hits + 1)
+abbrev pub anotherEntry : Counts → Counts
+anotherEntry n = counts (n .blocks) (n .entries + 1)
 
 abbrev pub oneBlock : Counts
 oneBlock = counts 1 0
 
-abbrev pub oneHit : Counts
-oneHit = counts 0 1
+abbrev pub oneEntry : Counts
+oneEntry = counts 0 1
 
 -- ---- Going up
 
 -- from n to m by d
 pub record Up (n m d : Counts) : Type 0 where
   pub blocks : m .blocks ≡ n .blocks + d .blocks
-  pub hits : m .hits ≡ n .hits + d .hits
+  pub entries : m .entries ≡ n .entries + d .entries
 
 pub up-nothing : (n : Counts) → Up n n nothing
-up-nothing n = record { blocks = omega arith; hits = omega arith }
+up-nothing n = record { blocks = omega arith; entries = omega arith }
 
 pub up-block : (n : Counts) → Up n (anotherBlock n) oneBlock
-up-block n = record { blocks = omega arith; hits = omega arith }
+up-block n = record { blocks = omega arith; entries = omega arith }
 
-pub up-hit : (n : Counts) → Up n (anotherHit n) oneHit
-up-hit n = record { blocks = omega arith; hits = omega arith }
+pub up-entry : (n : Counts) → Up n (anotherEntry n) oneEntry
+up-entry n = record { blocks = omega arith; entries = omega arith }
 
 pub up-joined : {n m k d e : Counts} → Up n m d → Up m k e → Up n k (d ⊞ e)
-up-joined u w = record { blocks = omega arith; hits = omega arith }
+up-joined u w = record { blocks = omega arith; entries = omega arith }
 
 -- there is one way up
 pub up-unique : {n m d e : Counts} → Up n m d → Up n m e → d ≡ e
-up-unique {d = d} {e = e} u w = ap₂ counts same-blocks same-hits
+up-unique {d = d} {e = e} u w = ap₂ counts same-blocks same-entries
   where
     same-blocks : d .blocks ≡ e .blocks
     same-blocks = omega arith
 
-    same-hits : d .hits ≡ e .hits
-    same-hits = omega arith
+    same-entries : d .entries ≡ e .entries
+    same-entries = omega arith
 
 -- ---- Fitting under one limit
 
@@ -134,33 +134,33 @@ fits-free most most′ count count′ more e f =
 
 -- ---- Fitting under both
 
--- from n on, d more blocks and hits fit under the limits
+-- from n on, d more blocks and entries fit under the limits
 pub record Fit (j : Judging) (n d : Counts) : Type 0 where
   pub blocks : Fits (j .blocks) (n .blocks) (d .blocks)
-  pub hits : Fits (j .places) (n .hits) (d .hits)
+  pub entries : Fits (j .places) (n .entries) (d .entries)
 
 module _ {j : Judging} {n : Counts} where
-  pub fit-nothing : {d : Counts} → d .blocks ≡ 0 → d .hits ≡ 0 → Fit j n d
-  fit-nothing p q = record { blocks = fits-none _ _ _ p; hits = fits-none _ _ _ q }
+  pub fit-nothing : {d : Counts} → d .blocks ≡ 0 → d .entries ≡ 0 → Fit j n d
+  fit-nothing p q = record { blocks = fits-none _ _ _ p; entries = fits-none _ _ _ q }
 
   pub fit-block : room (j .blocks) (n .blocks) ≡ true → Fit j n oneBlock
-  fit-block r = record { blocks = fits-one _ _ r; hits = fits-none _ _ _ refl }
+  fit-block r = record { blocks = fits-one _ _ r; entries = fits-none _ _ _ refl }
 
-  pub fit-hit : room (j .places) (n .hits) ≡ true → Fit j n oneHit
-  fit-hit r = record { blocks = fits-none _ _ _ refl; hits = fits-one _ _ r }
+  pub fit-entry : room (j .places) (n .entries) ≡ true → Fit j n oneEntry
+  fit-entry r = record { blocks = fits-none _ _ _ refl; entries = fits-one _ _ r }
 
   pub block-fits : (d : Counts) → Fit j n (oneBlock ⊞ d) → room (j .blocks) (n .blocks) ≡ true
   block-fits d f = fits-first _ _ (1 + d .blocks) (omega arith) (f .blocks)
 
-  pub hit-fits : Fit j n oneHit → room (j .places) (n .hits) ≡ true
-  hit-fits f = fits-first _ _ 1 (omega arith) (f .hits)
+  pub entry-fits : Fit j n oneEntry → room (j .places) (n .entries) ≡ true
+  entry-fits f = fits-first _ _ 1 (omega arith) (f .entries)
 
   pub fit-front : (d e : Counts) → Fit j n (d ⊞ e) → Fit j n d
-  fit-front d e f = record { blocks = fits-front _ _ _ _ (f .blocks); hits = fits-front _ _ _ _ (f .hits) }
+  fit-front d e f = record { blocks = fits-front _ _ _ _ (f .blocks); entries = fits-front _ _ _ _ (f .entries) }
 
   pub fit-back : {m : Counts} (d e : Counts) → Up n m d → Fit j n (d ⊞ e) → Fit j m e
-  fit-back d e u f = record { blocks = fits-back _ _ _ _ _ (u .blocks) (f .blocks); hits = fits-back _ _ _ _ _ (u .hits) (f .hits) }
+  fit-back d e u f = record { blocks = fits-back _ _ _ _ _ (u .blocks) (f .blocks); entries = fits-back _ _ _ _ _ (u .entries) (f .entries) }
 
   pub fit-joined : {m : Counts} (d e : Counts) → Up n m d → Fit j n d → Fit j m e → Fit j n (d ⊞ e)
   fit-joined d e u f g =
-      record { blocks = fits-joined _ _ _ _ _ (u .blocks) (f .blocks) (g .blocks); hits = fits-joined _ _ _ _ _ (u .hits) (f .hits) (g .hits) }
+      record { blocks = fits-joined _ _ _ _ _ (u .blocks) (f .blocks) (g .blocks); entries = fits-joined _ _ _ _ _ (u .entries) (f .entries) (g .entries) }

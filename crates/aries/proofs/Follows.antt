@@ -12,11 +12,12 @@ use Rattle.aries.specs.declared.state.State.{State}
 use Rattle.aries.specs.declared.state.Frame.{Frame}
 use Rattle.aries.specs.declared.state.Progress.{Progress}
 use Rattle.aries.specs.Outcome.{Out, done, refused, _>>=_, need}
-use Rattle.aries.specs.Hits.{Hit, Made, noHit, adding, andThen, mapAfter}
+use Rattle.aries.specs.declared.entry.Entry.{Entry}
+use Rattle.aries.specs.Entries.{Made, noEntry, adding, andThen, mapAfter}
 use Rattle.aries.specs.Judging.{Judging, room}
 use Rattle.aries.specs.Moves.{_⊕_}
 use Rattle.aries.specs.CopyRuns.{movedBy}
-use Rattle.aries.proofs.Counts.{Counts, countsOf, nothing, _⊞_, anotherBlock, anotherHit, oneBlock, oneHit, Up, up-nothing, up-block, up-hit, up-joined, Fit, fit-nothing, fit-block, fit-hit, block-fits, hit-fits, fit-front, fit-back, fit-joined}
+use Rattle.aries.proofs.Counts.{Counts, countsOf, nothing, _⊞_, anotherBlock, anotherEntry, oneBlock, oneEntry, Up, up-nothing, up-block, up-entry, up-joined, Fit, fit-nothing, fit-block, fit-entry, block-fits, entry-fits, fit-front, fit-back, fit-joined}
 
 -- ---- Moved by a vector
 
@@ -43,10 +44,10 @@ movedFrame v places f = record { job = record { setting = f .job .setting; place
 -- ---- A state with counts
 
 abbrev pub progress : State → Counts → Progress
-progress s n = record { state = s; blocks = n .blocks; hits = n .hits }
+progress s n = record { state = s; blocks = n .blocks; entries = n .entries }
 
-abbrev pub made : List Hit → State → Counts → Made Progress
-made hs s n = record { hits = hs; after = progress s n }
+abbrev pub made : List Entry → State → Counts → Made Progress
+made es s n = record { entries = es; after = progress s n }
 
 -- ---- The relation
 
@@ -55,32 +56,32 @@ pub data Looser (E : Type 0) : Bool → Bool → Type 0 where
   alike : {t : Bool} → Looser E t t
   dropped : (E → ⊥) → Looser E false true
 
--- Both are refused; or both are accepted, x with hits and state moved and both with counts that go up by as many; or x
+-- Both are refused; or both are accepted, x with entries and state moved and both with counts that go up by as many; or x
 -- alone is refused, though where E holds only when what is counted does not fit. The counts before were n and n′.
 pub data Follows (E : Type 0) (j : Judging) (v : Point) (n n′ : Counts) : Out (Made Progress) → Out (Made Progress) → Type 0 where
   refusals : {number line number′ line′ : ℕ} → Follows E j v n n′ (refused number line) (refused number′ line′)
   moves :
-      {hs : List Hit} {s : State} {m m′ : Counts} (d : Counts) → Up n m d → Up n′ m′ d → Fit j n d
-      → Follows E j v n n′ (done (made (map (movedBy v) hs) (movedState v s) m)) (done (made hs s m′))
-  stops :
-      {number line : ℕ} {hs : List Hit} {s : State} {m′ : Counts} (d : Counts) → Up n′ m′ d → (E → Fit j n d → ⊥)
-      → Follows E j v n n′ (refused number line) (done (made hs s m′))
+      {es : List Entry} {s : State} {m m′ : Counts} (d : Counts) → Up n m d → Up n′ m′ d → Fit j n d
+      → Follows E j v n n′ (done (made (map (movedBy v) es) (movedState v s) m)) (done (made es s m′))
+  ends :
+      {number line : ℕ} {es : List Entry} {s : State} {m′ : Counts} (d : Counts) → Up n′ m′ d → (E → Fit j n d → ⊥)
+      → Follows E j v n n′ (refused number line) (done (made es s m′))
 
 -- x follows y from every state, moved for x, and whatever was counted
 abbrev pub Beside : Type 0 → Judging → Point → (Progress → Out (Made Progress)) → (Progress → Out (Made Progress)) → Type 0
 Beside E j v x y = (s : State) (n n′ : Counts) → Follows E j v n n′ (x (progress (movedState v s) n)) (y (progress s n′))
 
 module _ {E : Type 0} {j : Judging} {v : Point} where
-  -- nothing is hit or counted
-  pub follows-no-hit : Beside E j v noHit noHit
-  follows-no-hit s n n′ = moves {hs = []} {s = s} {m = n} {m′ = n′} nothing (up-nothing n) (up-nothing n′) (fit-nothing refl refl)
+  -- no entry is made and nothing counted
+  pub follows-no-entry : Beside E j v noEntry noEntry
+  follows-no-entry s n n′ = moves {es = []} {s = s} {m = n} {m′ = n′} nothing (up-nothing n) (up-nothing n′) (fit-nothing refl refl)
 
   -- where x is refused, it need only be said why
   follows-refused :
       {n n′ : Counts} {x y : Out (Made Progress)} (number line : ℕ) → (E → ⊥) → Follows E j v n n′ x y → Follows E j v n n′ (refused number line) y
   follows-refused number line why refusals = refusals
-  follows-refused number line why (moves d u u′ f) = stops d u′ (λ e _. why e)
-  follows-refused number line why (stops d u′ f) = stops d u′ f
+  follows-refused number line why (moves d u u′ f) = ends d u′ (λ e _. why e)
+  follows-refused number line why (ends d u′ f) = ends d u′ f
 
   -- past a test
   pub follows-need :
@@ -90,43 +91,43 @@ module _ {E : Type 0} {j : Judging} {v : Point} where
   follows-need number line line′ (alike {t = false}) r = refusals
   follows-need number line line′ (dropped e) r = follows-refused number line e r
 
-  -- hits, and then what is made
+  -- entries, and then what is made
   follows-adding :
-      {n n′ m m′ : Counts} {x y : Out (Made Progress)} (hs : List Hit) (d : Counts) → Up n m d → Up n′ m′ d → Fit j n d
-      → Follows E j v m m′ x y → Follows E j v n n′ (adding (map (movedBy v) hs) x) (adding hs y)
-  follows-adding hs d u u′ f refusals = refusals
-  follows-adding {n} {n′} hs d u u′ f (moves {hs = gs} {s} {m = k} {m′ = k′} e w w′ g) =
-      subst (λ (l : List Hit). Follows E j v n n′ (done (made l (movedState v s) k)) (done (made (hs ++ gs) s k′))) (map-append (movedBy v) hs gs)
-      (moves {hs = hs ++ gs} {s = s} {m = k} {m′ = k′} (d ⊞ e) (up-joined u w) (up-joined u′ w′) (fit-joined d e u f g))
-  follows-adding hs d u u′ f (stops {hs = gs} {s} {m′ = k′} e w′ g) =
-      stops {hs = hs ++ gs} {s = s} {m′ = k′} (d ⊞ e) (up-joined u′ w′) (λ i a. g i (fit-back d e u a))
+      {n n′ m m′ : Counts} {x y : Out (Made Progress)} (es : List Entry) (d : Counts) → Up n m d → Up n′ m′ d → Fit j n d
+      → Follows E j v m m′ x y → Follows E j v n n′ (adding (map (movedBy v) es) x) (adding es y)
+  follows-adding es d u u′ f refusals = refusals
+  follows-adding {n} {n′} es d u u′ f (moves {es = fs} {s} {m = k} {m′ = k′} e w w′ g) =
+      subst (λ (l : List Entry). Follows E j v n n′ (done (made l (movedState v s) k)) (done (made (es ++ fs) s k′))) (map-append (movedBy v) es fs)
+      (moves {es = es ++ fs} {s = s} {m = k} {m′ = k′} (d ⊞ e) (up-joined u w) (up-joined u′ w′) (fit-joined d e u f g))
+  follows-adding es d u u′ f (ends {es = fs} {s} {m′ = k′} e w′ g) =
+      ends {es = es ++ fs} {s = s} {m′ = k′} (d ⊞ e) (up-joined u′ w′) (λ i a. g i (fit-back d e u a))
 
-  -- where x has stopped, y goes on alone
+  -- where x has ended, y goes on alone
   follows-alone :
-      {n n′ m m′ : Counts} {number line : ℕ} {x y : Out (Made Progress)} (hs : List Hit) (d : Counts) → Up n′ m′ d → (E → Fit j n d → ⊥)
-      → Follows E j v m m′ x y → Follows E j v n n′ (refused number line) (adding hs y)
-  follows-alone hs d u′ f refusals = refusals
-  follows-alone hs d u′ f (moves {hs = gs} {s} {m′ = k′} e w w′ g) =
-      stops {hs = hs ++ gs} {s = s} {m′ = k′} (d ⊞ e) (up-joined u′ w′) (λ i a. f i (fit-front d e a))
-  follows-alone hs d u′ f (stops {hs = gs} {s} {m′ = k′} e w′ g) =
-      stops {hs = hs ++ gs} {s = s} {m′ = k′} (d ⊞ e) (up-joined u′ w′) (λ i a. f i (fit-front d e a))
+      {n n′ m m′ : Counts} {number line : ℕ} {x y : Out (Made Progress)} (es : List Entry) (d : Counts) → Up n′ m′ d → (E → Fit j n d → ⊥)
+      → Follows E j v m m′ x y → Follows E j v n n′ (refused number line) (adding es y)
+  follows-alone es d u′ f refusals = refusals
+  follows-alone es d u′ f (moves {es = fs} {s} {m′ = k′} e w w′ g) =
+      ends {es = es ++ fs} {s = s} {m′ = k′} (d ⊞ e) (up-joined u′ w′) (λ i a. f i (fit-front d e a))
+  follows-alone es d u′ f (ends {es = fs} {s} {m′ = k′} e w′ g) =
+      ends {es = es ++ fs} {s = s} {m′ = k′} (d ⊞ e) (up-joined u′ w′) (λ i a. f i (fit-front d e a))
 
   -- one thing after the other
   pub follows-then :
       {n n′ : Counts} {x y : Out (Made Progress)} (f g : Progress → Out (Made Progress)) → Follows E j v n n′ x y → Beside E j v f g
       → Follows E j v n n′ (andThen x f) (andThen y g)
   follows-then f g refusals r = refusals
-  follows-then f g (moves {hs} {s} {m} {m′} d u u′ k) r = follows-adding hs d u u′ k (r s m m′)
-  follows-then f g (stops {hs = hs} {s} {m′} d u′ k) r = follows-alone hs d u′ k (r s nothing m′)
+  follows-then f g (moves {es} {s} {m} {m′} d u u′ k) r = follows-adding es d u u′ k (r s m m′)
+  follows-then f g (ends {es = es} {s} {m′} d u′ k) r = follows-alone es d u′ k (r s nothing m′)
 
   -- what is left, changed in the state only
   pub follows-map :
       {n n′ : Counts} {x y : Out (Made Progress)} (f g : State → State) → Follows E j v n n′ x y → ((s : State) → f (movedState v s) ≡ movedState v (g s))
       → Follows E j v n n′ (mapAfter (λ p. progress (f (p .state)) (countsOf p)) x) (mapAfter (λ p. progress (g (p .state)) (countsOf p)) y)
   follows-map f g refusals r = refusals
-  follows-map {n} {n′} f g (moves {hs} {s} {m} {m′} d u u′ k) r =
-      subst (λ (t : State). Follows E j v n n′ (done (made (map (movedBy v) hs) t m)) (done (made hs (g s) m′))) (sym (r s)) (moves d u u′ k)
-  follows-map f g (stops d u′ k) r = stops d u′ k
+  follows-map {n} {n′} f g (moves {es} {s} {m} {m′} d u u′ k) r =
+      subst (λ (t : State). Follows E j v n n′ (done (made (map (movedBy v) es) t m)) (done (made es (g s) m′))) (sym (r s)) (moves d u u′ k)
+  follows-map f g (ends d u′ k) r = ends d u′ k
 
   -- a block begins, if there is room: one more is counted
   pub follows-counted :
@@ -140,32 +141,32 @@ module _ {E : Type 0} {j : Judging} {v : Point} where
       go true e refusals = refusals
       go true e (moves d u u′ f) =
           moves (oneBlock ⊞ d) (up-joined (up-block n) u) (up-joined (up-block n′) u′) (fit-joined oneBlock d (up-block n) (fit-block e) f)
-      go true e (stops d u′ f) = stops (oneBlock ⊞ d) (up-joined (up-block n′) u′) (λ i a. f i (fit-back oneBlock d (up-block n) a))
+      go true e (ends d u′ f) = ends (oneBlock ⊞ d) (up-joined (up-block n′) u′) (λ i a. f i (fit-back oneBlock d (up-block n) a))
       go false e refusals = refusals
-      go false e (moves d u u′ f) = stops (oneBlock ⊞ d) (up-joined (up-block n′) u′) (λ i a. true≢false (sym (block-fits d a) ∙ e))
-      go false e (stops d u′ f) = stops (oneBlock ⊞ d) (up-joined (up-block n′) u′) (λ i a. true≢false (sym (block-fits d a) ∙ e))
+      go false e (moves d u u′ f) = ends (oneBlock ⊞ d) (up-joined (up-block n′) u′) (λ i a. true≢false (sym (block-fits d a) ∙ e))
+      go false e (ends d u′ f) = ends (oneBlock ⊞ d) (up-joined (up-block n′) u′) (λ i a. true≢false (sym (block-fits d a) ∙ e))
 
-  -- a hit, if there is room: one more is counted
-  pub follows-hit :
-      (number line : ℕ) (hit : Hit) (s : State) (n n′ : Counts)
+  -- an entry, if there is room: one more is counted
+  pub follows-entry :
+      (number line : ℕ) (e : Entry) (s : State) (n n′ : Counts)
       → Follows E j v n n′
-      (_>>=_ (need (room (j .places) (n .hits)) number line) (λ _. done (made (movedBy v hit ∷ []) (movedState v s) (anotherHit n))))
-      (done (made (hit ∷ []) s (anotherHit n′)))
-  follows-hit number line hit s n n′ = go (room (j .places) (n .hits)) refl
+      (_>>=_ (need (room (j .places) (n .entries)) number line) (λ _. done (made (movedBy v e ∷ []) (movedState v s) (anotherEntry n))))
+      (done (made (e ∷ []) s (anotherEntry n′)))
+  follows-entry number line e s n n′ = go (room (j .places) (n .entries)) refl
     where
       go :
-          (t : Bool) → room (j .places) (n .hits) ≡ t
+          (t : Bool) → room (j .places) (n .entries) ≡ t
           → Follows E j v n n′
-          (_>>=_ (need t number line) (λ _. done (made (movedBy v hit ∷ []) (movedState v s) (anotherHit n))))
-          (done (made (hit ∷ []) s (anotherHit n′)))
-      go true e = moves {hs = hit ∷ []} {s = s} {m = anotherHit n} {m′ = anotherHit n′} oneHit (up-hit n) (up-hit n′) (fit-hit e)
-      go false e = stops {hs = hit ∷ []} {s = s} {m′ = anotherHit n′} oneHit (up-hit n′) (λ i a. true≢false (sym (hit-fits a) ∙ e))
+          (_>>=_ (need t number line) (λ _. done (made (movedBy v e ∷ []) (movedState v s) (anotherEntry n))))
+          (done (made (e ∷ []) s (anotherEntry n′)))
+      go true h = moves {es = e ∷ []} {s = s} {m = anotherEntry n} {m′ = anotherEntry n′} oneEntry (up-entry n) (up-entry n′) (fit-entry h)
+      go false h = ends {es = e ∷ []} {s = s} {m′ = anotherEntry n′} oneEntry (up-entry n′) (λ i a. true≢false (sym (entry-fits a) ∙ h))
 
 -- ---- What it says where one of the two is accepted
 
--- both are: hits moved, and counts up by as many, which fit
+-- both are: entries moved, and counts up by as many, which fit
 pub record Together (j : Judging) (v : Point) (n n′ : Counts) (m m′ : Made Progress) (d : Counts) : Type 0 where
-  pub moved : m .hits ≡ map (movedBy v) (m′ .hits)
+  pub moved : m .entries ≡ map (movedBy v) (m′ .entries)
   pub up : Up n (countsOf (m .after)) d
   pub up′ : Up n′ (countsOf (m′ .after)) d
   pub fit : Fit j n d
@@ -182,7 +183,7 @@ module _ {E : Type 0} {j : Judging} {v : Point} {n n′ : Counts} where
   follows-accepted x y m e r = go m y (subst (λ (x : Out (Made Progress)). Follows E j v n n′ x y) e r)
     where
       go : (m : Made Progress) (y : Out (Made Progress)) → Follows E j v n n′ (done m) y → Followed j v n n′ m y
-      go m y (moves {hs} {s} {m′} d u u′ f) = record { other = made hs s m′; by = d; other-is = refl; together = record { moved = refl; up = u; up′ = u′; fit = f } }
+      go m y (moves {es} {s} {m′} d u u′ f) = record { other = made es s m′; by = d; other-is = refl; together = record { moved = refl; up = u; up′ = u′; fit = f } }
 
   -- where E holds, what fits is accepted
   pub follows-fitting :
@@ -193,5 +194,5 @@ module _ {E : Type 0} {j : Judging} {v : Point} {n n′ : Counts} where
       go :
           (x : Out (Made Progress)) (m′ : Made Progress) → Follows E j v n n′ x (done m′) → ((d : Counts) → Up n′ (countsOf (m′ .after)) d → Fit j n d)
           → (m : Made Progress) × (x ≡ done m)
-      go x m′ (moves {hs} {s} {m} d u u′ f) fit = (made (map (movedBy v) hs) (movedState v s) m, refl)
-      go x m′ (stops d u′ f) fit = absurd (f i (fit d u′))
+      go x m′ (moves {es} {s} {m} d u u′ f) fit = (made (map (movedBy v) es) (movedState v s) m, refl)
+      go x m′ (ends d u′ f) fit = absurd (f i (fit d u′))

@@ -18,7 +18,7 @@ use Rattle.aries.specs.declared.setup.Setup.{Setup}
 use Rattle.aries.specs.declared.setup.Program.{Program}
 use Rattle.aries.specs.declared.state.Progress.{Progress}
 use Rattle.aries.specs.Outcome.{Out, done, refused, _>>=_, need}
-use Rattle.aries.specs.Hits.{Made, noHit, andThen, mapAfter}
+use Rattle.aries.specs.Entries.{Made, noEntry, andThen, mapAfter}
 use Rattle.aries.specs.Judging.{Judging, judged, near}
 use Rattle.aries.specs.Letters.{letterV}
 use Rattle.aries.specs.Text.{startsWith}
@@ -102,7 +102,7 @@ module _ (P : Setup → Type 0) where
     passOver-keeps : (l : List ℕ) (p : Program) → P (p .setup) → Keeps P (passOver l p)
     passOver-keeps l p o = go (startsWith letterV l)
       where
-        go : (t : Bool) → Keeps P (elim t as (λ _. Out (Made Program)) [ true ↦ noHit (atStage Running p) | false ↦ noHit p ])
+        go : (t : Bool) → Keeps P (elim t as (λ _. Out (Made Program)) [ true ↦ noEntry (atStage Running p) | false ↦ noEntry p ])
         go true = keeps-done _ o
         go false = keeps-done _ o
 

@@ -1,7 +1,7 @@
--- Demand 3: the hits by G75 and by G76 are equal exactly when the layout is a single row or a single column, both pitches
+-- Demand 3: the entries by G75 and by G76 are equal exactly when the layout is a single row or a single column, both pitches
 -- are zero, or the part makes no hit. If: the places of the two orders agree (`Lanes`). Only if: with two rows, two columns
--- and a hit, the first copies agree, and the second ones are apart unless both pitches are zero.
-use mathlib.Core.Path.{_≡_, refl, sym, ap, ap₂, _∙_, subst}
+-- and a hit, the first copies agree, and the first hits of the second ones are apart unless both pitches are zero.
+use mathlib.Core.Path.{_≡_, refl, sym, ap, ap₂, _∙_}
 use mathlib.Core.Bool.{Bool, true, false}
 use mathlib.Core.List.{List, [], _∷_, _++_, map, head-eq-of-cons-eq}
 use Prim.Native.Nat.{ℕ, zero, suc, _*_, _-_, _<_}
@@ -10,16 +10,18 @@ use native.Mathlib.Omega.{arith}
 use lib.IntN.{pos}
 use Rattle.aries.specs.declared.point.Point.{Point}
 use Rattle.aries.specs.declared.block.Layout.{Layout}
-use Rattle.aries.specs.Hits.{Hit}
+use Rattle.aries.specs.declared.entry.Hit.{Hit}
+use Rattle.aries.specs.declared.entry.Entry.{Entry}
+use Rattle.aries.specs.Entries.{hitsIn}
 use Rattle.aries.specs.Lanes.{lane, along}
 use Rattle.aries.specs.Layouts.{copyCount, columnOf, rowOf, fromRight, fromTop, facing, placeAt, copyPlace}
-use Rattle.aries.specs.CopyRuns.{run, hitsOf, ownHits, movedBy, joined, Alike, singleRow, singleColumn, noPitch, hitless, EqualExactlyWhen}
-use Rattle.aries.proofs.Points.{+ℤ-cancel-left}
+use Rattle.aries.specs.CopyRuns.{run, entriesOf, ownEntries, movedHit, movedBy, joined, Alike, singleRow, singleColumn, noPitch, hitless, EqualExactlyWhen}
+use Rattle.aries.proofs.Points.{+ℤ-cancel-left, hits-moved, hitless-stays}
 use Rattle.aries.proofs.Joined.{joined-cong, joined-second}
 use Rattle.aries.proofs.Lanes.{lane-first, along-first, lane-single, along-single}
 use Rattle.aries.proofs.Counts.{countsOf}
 use Rattle.aries.proofs.Parts.{same-part, parts-turned}
-use Rattle.aries.proofs.CopyRuns.{run-hits}
+use Rattle.aries.proofs.CopyRuns.{run-entries}
 
 -- ---- Places
 
@@ -63,7 +65,7 @@ pos-injective m n e = cc
 
 -- a hit at the places beside and above the first one is the same only without pitches
 hits-apart : (origin : Point) (l : Layout) (q : ℕ) (h : Hit) {a b : ℕ} → l .steps .x ≡ suc a → l .steps .y ≡ suc b
-    → movedBy (placeAt origin l q 1 0) h ≡ movedBy (placeAt origin l q 0 1) h → (l .pitch .x ≡ 0) × (l .pitch .y ≡ 0)
+    → movedHit (placeAt origin l q 1 0) h ≡ movedHit (placeAt origin l q 0 1) h → (l .pitch .x ≡ 0) × (l .pitch .y ≡ 0)
 hits-apart origin l q h {a} {b} ex ey e = (facing-apart (fromRight q) a (l .pitch .x) across, facing-apart (fromTop q) b (l .pitch .y) (sym up))
   where
     across : facing (fromRight q) (suc a) 1 * l .pitch .x ≡ facing (fromRight q) (suc a) 0 * l .pitch .x
@@ -74,28 +76,21 @@ hits-apart origin l q h {a} {b} ex ey e = (facing-apart (fromRight q) a (l .pitc
 
 -- ---- The two lists
 
-module _ (origin : Point) (l : Layout) (q : ℕ) (own : List Hit) where
+module _ (origin : Point) (l : Layout) (q : ℕ) (own : List Entry) where
   -- copy m in one order
-  copyIn : Bool → ℕ → List Hit
+  copyIn : Bool → ℕ → List Entry
   unfolding placeIn
   copyIn vertical m = map (movedBy (placeIn origin l q vertical m)) own
 
-  abbrev allIn : Bool → List Hit
+  abbrev allIn : Bool → List Entry
   allIn vertical = joined (copyIn vertical) (copyCount l) 0
 
   by-places : ((m : ℕ) → m < copyCount l → placeIn origin l q false m ≡ placeIn origin l q true m) → allIn false ≡ allIn true
   unfolding copyIn
   by-places h = joined-cong _ _ (copyCount l) 0 (λ m _ k. ap (λ (p : Point). map (movedBy p) own) (h m (omega arith)))
 
-  alike-equal : Alike l own → allIn false ≡ allIn true
-  unfolding copyIn
-  alike-equal (singleRow e) = by-places (in-a-row origin l q e)
-  alike-equal (singleColumn e) = by-places (in-a-column origin l q e)
-  alike-equal (noPitch e f) = by-places (λ m h. in-one-place origin l q e f _ _ _ _)
-  alike-equal (hitless e) = joined-cong _ _ (copyCount l) 0 (λ m _ _. ap (map (movedBy (placeIn origin l q false m))) e ∙ sym (ap (map (movedBy (placeIn origin l q true m))) e))
-
   equal-pitches :
-      {a b : ℕ} {h : Hit} {t : List Hit} → l .steps .x ≡ suc a → l .steps .y ≡ suc b → own ≡ h ∷ t → allIn false ≡ allIn true
+      {a b : ℕ} {h : Hit} {t : List Hit} → l .steps .x ≡ suc a → l .steps .y ≡ suc b → hitsIn own ≡ h ∷ t → allIn false ≡ allIn true
       → (l .pitch .x ≡ 0) × (l .pitch .y ≡ 0)
   unfolding copyIn
   equal-pitches {a} {b} {h} {t} ex ey eo e = hits-apart origin l q h ex ey beside
@@ -113,38 +108,55 @@ module _ (origin : Point) (l : Layout) (q : ℕ) (own : List Hit) where
       two : copyCount l ≡ suc (suc (copyCount l - 2))
       two = omega arith
 
-      heads : movedBy (at false 1) h ≡ movedBy (at true 1) h
+      -- from the second copy on
+      from-second : Bool → List Entry
+      from-second vertical = map (movedBy (at vertical 1)) own ++ joined (copyIn vertical) (copyCount l - 2) 2
+
+      hits-from-second : (vertical : Bool) → hitsIn (from-second vertical) ≡ map (movedHit (at vertical 1)) (h ∷ t) ++ hitsIn (joined (copyIn vertical) (copyCount l - 2) 2)
+      hits-from-second vertical =
+          hits-moved (at vertical 1) own (joined (copyIn vertical) (copyCount l - 2) 2)
+          ∙ ap (λ (hs : List Hit). map (movedHit (at vertical 1)) hs ++ hitsIn (joined (copyIn vertical) (copyCount l - 2) 2)) eo
+
+      heads : movedHit (at false 1) h ≡ movedHit (at true 1) h
       heads =
           head-eq-of-cons-eq
-          (subst (λ (o : List Hit). map (movedBy (at false 1)) o ++ joined (copyIn false) (copyCount l - 2) 2 ≡ map (movedBy (at true 1)) o ++ joined (copyIn true) (copyCount l - 2) 2) eo
-          (joined-second (copyIn false) (copyIn true) (copyCount l) (copyCount l - 2) two same-first e))
+          (sym (hits-from-second false)
+          ∙ ap hitsIn (joined-second (copyIn false) (copyIn true) (copyCount l) (copyCount l - 2) two same-first e)
+          ∙ hits-from-second true)
 
-      beside : movedBy (placeAt origin l q 1 0) h ≡ movedBy (placeAt origin l q 0 1) h
+      beside : movedHit (placeAt origin l q 1 0) h ≡ movedHit (placeAt origin l q 0 1) h
       beside =
-          ap (λ (p : Point). movedBy p h) (sym (ap₂ (placeAt origin l q) (along-first (l .steps .x) 1 (omega arith)) (lane-first (l .steps .x) 1 (omega arith))))
+          ap (λ (p : Point). movedHit p h) (sym (ap₂ (placeAt origin l q) (along-first (l .steps .x) 1 (omega arith)) (lane-first (l .steps .x) 1 (omega arith))))
           ∙ heads
-          ∙ ap (λ (p : Point). movedBy p h) (ap₂ (placeAt origin l q) (lane-first (l .steps .y) 1 (omega arith)) (along-first (l .steps .y) 1 (omega arith)))
+          ∙ ap (λ (p : Point). movedHit p h) (ap₂ (placeAt origin l q) (lane-first (l .steps .y) 1 (omega arith)) (along-first (l .steps .y) 1 (omega arith)))
 
   equal-alike : allIn false ≡ allIn true → Alike l own
-  equal-alike e = go own (l .steps .x) (l .steps .y) refl refl refl
+  equal-alike e = go (hitsIn own) (l .steps .x) (l .steps .y) refl refl refl
     where
-      go : (o : List Hit) (x y : ℕ) → own ≡ o → l .steps .x ≡ x → l .steps .y ≡ y → Alike l own
+      go : (hs : List Hit) (x y : ℕ) → hitsIn own ≡ hs → l .steps .x ≡ x → l .steps .y ≡ y → Alike l own
       go [] x y eo ex ey = hitless eo
       go (h ∷ t) zero y eo ex ey = singleColumn ex
       go (h ∷ t) (suc a) zero eo ex ey = singleRow ey
       go (h ∷ t) (suc a) (suc b) eo ex ey = let p = equal-pitches ex ey eo e in noPitch (p .0) (p .1)
 
+  alike-equal : Alike l own → allIn false ≡ allIn true
+  unfolding copyIn
+  alike-equal (singleRow e) = by-places (in-a-row origin l q e)
+  alike-equal (singleColumn e) = by-places (in-a-column origin l q e)
+  alike-equal (noPitch e f) = by-places (λ m h. in-one-place origin l q e f _ _ _ _)
+  alike-equal (hitless e) = joined-cong _ _ (copyCount l) 0 (λ m _ _. hitless-stays (placeIn origin l q false m) (placeIn origin l q true m) own e)
+
 -- ---- The statement
 
 pub equal-exactly-when : EqualExactlyWhen
-unfolding run copyPlace copyIn placeIn ownHits
+unfolding run copyPlace copyIn placeIn ownEntries
 equal-exactly-when c d l r s (m, e) (m′, e′) =
-    (λ h. equal-alike (c .setup .origin) l (c .corner) (ownHits c) (sym g75 ∙ h ∙ g76), λ a. g75 ∙ alike-equal (c .setup .origin) l (c .corner) (ownHits c) a ∙ sym g76)
+    (λ h. equal-alike (c .setup .origin) l (c .corner) (ownEntries c) (sym g75 ∙ h ∙ g76), λ a. g75 ∙ alike-equal (c .setup .origin) l (c .corner) (ownEntries c) a ∙ sym g76)
   where
-    g75 : hitsOf (run false c) ≡ allIn (c .setup .origin) l (c .corner) (ownHits c) false
-    g75 = run-hits false c m e c (same-part c) (countsOf (c .before)) l s
+    g75 : entriesOf (run false c) ≡ allIn (c .setup .origin) l (c .corner) (ownEntries c) false
+    g75 = run-entries false c m e c (same-part c) (countsOf (c .before)) l s
 
-    g76 : hitsOf (run true d) ≡ allIn (c .setup .origin) l (c .corner) (ownHits c) true
+    g76 : entriesOf (run true d) ≡ allIn (c .setup .origin) l (c .corner) (ownEntries c) true
     g76 =
-        run-hits true d m′ e′ c (parts-turned (r .parts)) (countsOf (c .before)) l (sym (r .sheet) ∙ s)
-        ∙ ap₂ (λ (o : Point) (q : ℕ). allIn o l q (ownHits c) true) (sym (r .origin)) (sym (r .corner))
+        run-entries true d m′ e′ c (parts-turned (r .parts)) (countsOf (c .before)) l (sym (r .sheet) ∙ s)
+        ∙ ap₂ (λ (o : Point) (q : ℕ). allIn o l q (ownEntries c) true) (sym (r .origin)) (sym (r .corner))

@@ -4,7 +4,8 @@ use mathlib.Core.Bool.{Bool, true, false}
 use mathlib.Core.List.{List, _++_, append-assoc}
 use Prim.Native.Nat.{ℕ}
 use Rattle.aries.specs.Outcome.{Out, done, refused, _>>=_, need}
-use Rattle.aries.specs.Hits.{Hit, Made, adding, andThen}
+use Rattle.aries.specs.declared.entry.Entry.{Entry}
+use Rattle.aries.specs.Entries.{Made, adding, andThen}
 
 abbrev IsRefused : {A : Type 0} → Out A → Type 0
 IsRefused (refused number line) = Unit {0}
@@ -31,41 +32,41 @@ pub need-accepted :
 need-accepted true number line x a e = (refl, e)
 need-accepted false number line x a e = absurd (refused≢done number line a e)
 
--- the first was accepted, and then the second: its hits come after, and what it leaves is left
+-- the first was accepted, and then the second: its entries come after, and what it leaves is left
 pub record Both {A : Type 0} (x : Out (Made A)) (f : A → Out (Made A)) (m : Made A) : Type 0 where
   pub first : Made A
   pub second : Made A
   pub first-is : x ≡ done first
   pub second-is : f (first .after) ≡ done second
-  pub hits-are : m .hits ≡ first .hits ++ second .hits
+  pub entries-are : m .entries ≡ first .entries ++ second .entries
   pub after-is : m .after ≡ second .after
 
 pub then-accepted : {A : Type 0} (x : Out (Made A)) (f : A → Out (Made A)) (m : Made A) → andThen x f ≡ done m → Both x f m
 then-accepted (refused number line) f m e = absurd (refused≢done number line m e)
 then-accepted {A} (done k) f m e = go (f (k .after)) refl e
   where
-    go : (y : Out (Made A)) → f (k .after) ≡ y → adding (k .hits) y ≡ done m → Both (done k) f m
+    go : (y : Out (Made A)) → f (k .after) ≡ y → adding (k .entries) y ≡ done m → Both (done k) f m
     go (refused number line) p q = absurd (refused≢done number line m q)
     go (done r) p q =
-        let d : record { hits = k .hits ++ r .hits; after = r .after } ≡ m = done-injective _ _ q in
+        let d : record { entries = k .entries ++ r .entries; after = r .after } ≡ m = done-injective _ _ q in
         record {
           first = k;
           second = r;
           first-is = refl;
           second-is = p;
-          hits-are = sym (ap (λ (z : Made A). z .hits) d);
+          entries-are = sym (ap (λ (z : Made A). z .entries) d);
           after-is = sym (ap (λ (z : Made A). z .after) d);
         }
 
 -- and back: two accepted ones make an accepted one
-pub accepted-then : {A : Type 0} (x : Out (Made A)) (f : A → Out (Made A)) (k r : Made A) → x ≡ done k → f (k .after) ≡ done r → andThen x f ≡ done (record { hits = k .hits ++ r .hits; after = r .after })
-accepted-then x f k r e g = ap (λ (y : Out (Made _)). andThen y f) e ∙ ap (adding (k .hits)) g
+pub accepted-then : {A : Type 0} (x : Out (Made A)) (f : A → Out (Made A)) (k r : Made A) → x ≡ done k → f (k .after) ≡ done r → andThen x f ≡ done (record { entries = k .entries ++ r .entries; after = r .after })
+accepted-then x f k r e g = ap (λ (y : Out (Made _)). andThen y f) e ∙ ap (adding (k .entries)) g
 
--- hits, and then one thing after the other
-pub adding-then : {A : Type 0} (hs : List Hit) (x : Out (Made A)) (k : A → Out (Made A)) → adding hs (andThen x k) ≡ andThen (adding hs x) k
-adding-then hs (refused number line) k = refl
-adding-then {A} hs (done m) k = go (k (m .after))
+-- entries, and then one thing after the other
+pub adding-then : {A : Type 0} (es : List Entry) (x : Out (Made A)) (k : A → Out (Made A)) → adding es (andThen x k) ≡ andThen (adding es x) k
+adding-then es (refused number line) k = refl
+adding-then {A} es (done m) k = go (k (m .after))
   where
-    go : (y : Out (Made A)) → adding hs (adding (m .hits) y) ≡ adding (hs ++ m .hits) y
+    go : (y : Out (Made A)) → adding es (adding (m .entries) y) ≡ adding (es ++ m .entries) y
     go (refused number line) = refl
-    go (done n) = ap (λ (l : List Hit). done (record { hits = l; after = n .after })) (sym (append-assoc hs (m .hits) (n .hits)))
+    go (done n) = ap (λ (l : List Entry). done (record { entries = l; after = n .after })) (sym (append-assoc es (m .entries) (n .entries)))

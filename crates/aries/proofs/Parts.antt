@@ -11,7 +11,7 @@ use Rattle.aries.specs.declared.point.Point.{Point}
 use Rattle.aries.specs.declared.state.State.{State}
 use Rattle.aries.specs.declared.state.Progress.{Progress}
 use Rattle.aries.specs.Outcome.{Out}
-use Rattle.aries.specs.Hits.{Made}
+use Rattle.aries.specs.Entries.{Made}
 use Rattle.aries.specs.Machine.{inRange}
 use Rattle.aries.specs.Judging.{Judging, limits, judged, near, unjudged}
 use Rattle.aries.specs.Moves.{zeroPoint, _⊕_}
@@ -142,5 +142,5 @@ pub fit-alike : {c d : Circumstances} {n : Counts} → AllAlike c d → Fit (lim
 fit-alike {c} {d} r f =
     record {
       blocks = rw (r .blocks) at (f .blocks);
-      hits = fits-free (c .setup .job .places) (d .setup .job .places) (c .before .hits) (d .before .hits) _ (r .free) (f .hits);
+      entries = fits-free (c .setup .job .places) (d .setup .job .places) (c .before .entries) (d .before .entries) _ (r .free) (f .entries);
     }

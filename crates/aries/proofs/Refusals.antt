@@ -31,7 +31,8 @@ use Rattle.aries.specs.Test.{within}
 use Rattle.aries.specs.Outcome.{Out, done, refused, _>>=_, need}
 use Rattle.aries.specs.Letters.{letterV}
 use Rattle.aries.specs.Text.{longest, startsWith, strayLine, withoutSpaces, lines}
-use Rattle.aries.specs.Hits.{Hit, Made, noHit}
+use Rattle.aries.specs.declared.entry.Entry.{Entry}
+use Rattle.aries.specs.Entries.{Made, noEntry}
 use Rattle.aries.specs.Judging.{Judging, judged, near, limits, lending}
 use Rattle.aries.specs.Machine.{named}
 use Rattle.aries.specs.Moves.{_⊕_}
@@ -94,7 +95,7 @@ module _ (last : ℕ) (text : List ℕ) where
   unfolding firstRun
   firstRun-sound j m n b s g st k = go (runsFirst n (s .sheet))
     where
-      go : (t : Bool) → Sound {A = Progress} last Any (elim t [ true ↦ runBody j (bodiesOf text m) (mostCalls - 1) (ordinaryFrame s) b g | false ↦ noHit g ])
+      go : (t : Bool) → Sound {A = Progress} last Any (elim t [ true ↦ runBody j (bodiesOf text m) (mostCalls - 1) (ordinaryFrame s) b g | false ↦ noEntry g ])
       go true = runBody-sound j (bodiesOf text m) (st .stored) (mostCalls - 1) (ordinaryFrame s) b g k
       go false = sound-done tt
 
@@ -145,7 +146,7 @@ module _ (last : ℕ) (text : List ℕ) where
   passOver-sound : (l : List ℕ) (p : Program) → Held p → Sound last Held (passOver l p)
   passOver-sound l p k = go (startsWith letterV l)
     where
-      go : (t : Bool) → Sound last Held (elim t as (λ _. Out (Made Program)) [ true ↦ noHit (atStage Running p) | false ↦ noHit p ])
+      go : (t : Bool) → Sound last Held (elim t as (λ _. Out (Made Program)) [ true ↦ noEntry (atStage Running p) | false ↦ noEntry p ])
       go true = sound-done k
       go false = sound-done k
 
@@ -233,17 +234,17 @@ perform-proper last job text end h b =
     go (runFrom (limits job) text 0 1 (lines text) (freshProgram job))
     (runFrom-sound last text (limits job) 0 1 (lines text) (freshProgram job) refl (omega arith) (omega arith) (nothing-stored last text))
   where
-    ended : (t : Bool) (hits : List Hit) → Proper last Any (_>>=_ (need t 7 end) (λ _. done hits))
-    ended true hits = record { answered = tt }
-    ended false hits = record { answered = (refl, h) }
+    ended : (t : Bool) (entries : List Entry) → Proper last Any (_>>=_ (need t 7 end) (λ _. done entries))
+    ended true entries = record { answered = tt }
+    ended false entries = record { answered = (refl, h) }
 
     go :
         (x : Out (Made Program)) → Sound last (Held last text) x
-        → Proper last Any (_>>=_ x (λ m. _>>=_ (need (isEnded (m .after .stage)) 7 end) (λ _. done (m .hits))))
-    go (done m) k = ended (isEnded (m .after .stage)) (m .hits)
+        → Proper last Any (_>>=_ x (λ m. _>>=_ (need (isEnded (m .after .stage)) 7 end) (λ _. done (m .entries))))
+    go (done m) k = ended (isEnded (m .after .stage)) (m .entries)
     go (refused number line) k = record { answered = k .answered }
 
-module _ (text : List ℕ) (x : Out (List Hit)) where
+module _ (text : List ℕ) (x : Out (List Entry)) where
   -- 2, and what comes after it
   noStray-proper : Proper (length (lines text)) Any x → Proper (length (lines text)) Any (_>>=_ (noStray (strayLine 1 text)) (λ _. x))
   noStray-proper k = go (strayLine 1 text) refl

@@ -1,4 +1,4 @@
--- Past 1, what is refused has a number from 2 to 18 and a line of the text: one law a definition, from a hit up to the copies of
+-- Past 1, what is refused has a number from 2 to 18 and a line of the text: one law a definition, from an entry up to the copies of
 -- a part, where all that is stored lies within the lines of the text.
 use mathlib.Core.Path.{_≡_, refl}
 use mathlib.Core.Bool.{Bool, true, false, cond, _&&_}
@@ -9,7 +9,7 @@ use native.Mathlib.Omega.{arith}
 use lib.Dec.{ltb}
 use lib.ListN.{length, getD}
 use Rattle.aries.specs.declared.block.Direct.{Direct}
-use Rattle.aries.specs.declared.block.Direct.the-variants.{Lone, Punch, Move, PatternOrigin, RunPattern, Recall, Nibble, Idle}
+use Rattle.aries.specs.declared.block.Direct.the-variants.{Lone, Punch, Move, PatternOrigin, RunPattern, Recall, Nibble, Idle, Stop}
 use Rattle.aries.specs.declared.block.Block.{Block}
 use Rattle.aries.specs.declared.block.Block.the-variants as Block
 use Rattle.aries.specs.declared.block.Axes.{Axes}
@@ -37,10 +37,12 @@ use Rattle.aries.specs.ByLetter.{Letters, Words, byLetter}
 use Rattle.aries.specs.Forms.{inPlaces, kindOf, isListed}
 use Rattle.aries.specs.Numbers.{inHundredths, lengthsFit, isRanged}
 use Rattle.aries.specs.Blocks.{instructionOf, decodeWords, decoded, decode}
-use Rattle.aries.specs.Hits.{Made, adding, andThen, mapAfter}
+use Rattle.aries.specs.declared.entry.Entry.{Entry}
+use Rattle.aries.specs.declared.entry.Entry.the-variants as Entry
+use Rattle.aries.specs.Entries.{Made, adding, andThen, mapAfter}
 use Rattle.aries.specs.Judging.{Judging, room, judged, near}
 use Rattle.aries.specs.Machine.{inRange}
-use Rattle.aries.specs.Moves.{_⊕_, target, hitting, punch, position, move, setPatternOrigin, choosing, dropping, remembering, withState}
+use Rattle.aries.specs.Moves.{_⊕_, movedTo, target, entered, enter, hitOf, punch, position, move, setPatternOrigin, choosing, dropping, remembering, withState}
 use Rattle.aries.specs.Patterns.{hitOffset, hitCount, reachIsNear, shearIsFit, punches, startOf, starting, ending, pattern, runPattern, emptyMemory, recalled, recall}
 use Rattle.aries.specs.Macros.{Body, Bodies, Calls, carryDirect, carry, mayCome, begunBy, begin, runBlock, runLine, runLines, call, mostCalls, runBody}
 use Rattle.aries.specs.Setup.{ordinaryFrame, frameAt}
@@ -121,7 +123,7 @@ module _ {last : ℕ} where
   sound-given P none number n h s rest = sound-refused n h
   sound-given P (some a) number n h s rest = rest a s
 
-  sound-adding : {A : Type 0} {P : A → Type 0} (m : Made A) (x : Out (Made A)) → Sound last P x → Sound last P (adding (m .hits) x)
+  sound-adding : {A : Type 0} {P : A → Type 0} (m : Made A) (x : Out (Made A)) → Sound last P x → Sound last P (adding (m .entries) x)
   sound-adding m (done r) h = record { answered = h .answered }
   sound-adding m (refused number line) h = record { answered = h .answered }
 
@@ -140,14 +142,16 @@ module _ {last : ℕ} where
   -- ---- A direct block, in a line of the text
 
   module _ (j : Judging) (f : Frame) (line : ℕ) (h : LineOf last line) where
+    enter-sound : (e : Entry) (g : Progress) → Sound last Any (enter j line e g)
+    enter-sound e g = sound-need (room (j .places) (g .entries)) 17 refl h (sound-done {m = entered e g} tt)
+
     punch-sound : (p : Point) (g : Progress) → Sound last Any (punch j f line p g)
     unfolding punch
     punch-sound p g =
         sound-need (ltb 0 (g .state .tool)) 14 refl h
         (sound-need (judged (j .bounds) (near p)) 15 refl h
         (sound-need (judged (j .bounds) (inRange f p)) 16 refl h
-        (sound-need (room (j .places) (g .hits)) 17 refl h
-        (sound-done {m = hitting g p} tt))))
+        (enter-sound (hitOf (g .state) p) (withState g (movedTo (g .state) p)))))
 
     move-sound : (a : Axes) (t : ℕ) (g : Progress) → Sound last Any (move j f line a t g)
     unfolding move
@@ -186,6 +190,7 @@ module _ {last : ℕ} where
     carryDirect-sound (Recall n) g = recalled-sound (getD (g .state .memories) (n - 1) emptyMemory .stored) g
     carryDirect-sound (Nibble b) g = sound-done tt
     carryDirect-sound Idle g = sound-done tt
+    carryDirect-sound (Stop optional) g = enter-sound (Entry.Stop optional) g
 
   -- ---- A line begins
 

@@ -22,7 +22,7 @@ use Rattle.aries.specs.Text.{startsWith}
 use Rattle.aries.specs.declared.reader.Reader.{Reader}
 use Rattle.aries.specs.Reader.{readerOf}
 use Rattle.aries.specs.Blocks.{decode}
-use Rattle.aries.specs.Hits.{Made, noHit, mapAfter}
+use Rattle.aries.specs.Entries.{Made, noEntry, mapAfter}
 use Rattle.aries.specs.Judging.{Judging}
 use Rattle.aries.specs.Macros.{Body, part, bodiesOf, storing, characters, mostCalls, runBody}
 use Rattle.aries.specs.Setup.{ordinaryFrame}
@@ -86,7 +86,7 @@ unfoldable pub firstRun : Judging → List ℕ → Macros → ℕ → Body → S
 unfolding runBody bodiesOf
 firstRun j text m n b s g = elim (runsFirst n (s .sheet)) [
   | true ↦ runBody j (bodiesOf text m) (mostCalls - 1) (ordinaryFrame s) b g
-  | false ↦ noHit g
+  | false ↦ noEntry g
 ]
 
 -- the body of a U line in a line with a number: so many bytes from a place of the text on

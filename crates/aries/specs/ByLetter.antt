@@ -18,15 +18,15 @@ use Rattle.aries.specs.Words.{LetterWord}
 
 -- ---- Codes
 
--- a table has an entry with a number
-abbrev pub isEntry : {A : Type 0} → List (ℕ × A) → ℕ → Bool
-isEntry [] n = false
-isEntry (e ∷ es) n = eqb n (e .0) || isEntry es n
+-- a table has a row with a number
+abbrev pub hasRow : {A : Type 0} → List (ℕ × A) → ℕ → Bool
+hasRow [] n = false
+hasRow (r ∷ rs) n = eqb n (r .0) || hasRow rs n
 
--- the first entry with a number, else the value at hand
+-- the value of the first row with a number, else the one at hand
 abbrev pub lookup : {A : Type 0} → List (ℕ × A) → ℕ → A → A
 lookup [] n other = other
-lookup (e ∷ es) n other = cond (eqb n (e .0)) (e .1) (lookup es n other)
+lookup (r ∷ rs) n other = cond (eqb n (r .0)) (r .1) (lookup rs n other)
 
 -- the codes of patterns
 abbrev pub patternCodes : List (ℕ × Kind)
@@ -42,10 +42,10 @@ codes =
 abbrev pub measures : List (ℕ × Measure)
 measures = (90, Absolute) ∷ (91, Incremental) ∷ []
 
--- the M codes: M12 and M13 set the mode, the others make no hit
+-- the M codes: M00 and M01 are stops, M12 and M13 set the mode, M08 and M09 do nothing
 abbrev pub mCodes : List (ℕ × Direct)
 mCodes =
-    (0, direct.Idle) ∷ (1, direct.Idle) ∷ (8, direct.Idle) ∷ (9, direct.Idle) ∷ (12, direct.Nibble true)
+    (0, direct.Stop false) ∷ (1, direct.Stop true) ∷ (8, direct.Idle) ∷ (9, direct.Idle) ∷ (12, direct.Nibble true)
     ∷ (13, direct.Nibble false) ∷ []
 
 -- ---- Words by letter
@@ -86,7 +86,7 @@ codeOf v = natAbs (v .value)
 
 -- the word of a G is that of G90 or G91
 abbrev pub isMeasure : Word → Bool
-isMeasure v = isPlain v && isEntry measures (codeOf v)
+isMeasure v = isPlain v && hasRow measures (codeOf v)
 
 -- the words with one more: a G90 or G91, any other G as the code, any other letter in its place
 unfoldable pub added : Words → LetterWord → Words

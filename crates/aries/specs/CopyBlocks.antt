@@ -19,7 +19,7 @@ use Rattle.aries.specs.declared.setup.Stage.the-variants.{Running}
 use Rattle.aries.specs.declared.setup.Program.{Program}
 use Rattle.aries.specs.Outcome.{done, passes}
 use Rattle.aries.specs.Text.{lines}
-use Rattle.aries.specs.Hits.{Made, mapAfter}
+use Rattle.aries.specs.Entries.{Made, mapAfter}
 use Rattle.aries.specs.Judging.{limits}
 use Rattle.aries.specs.Blocks.{decode}
 use Rattle.aries.specs.Moves.{_⊕_}

@@ -43,7 +43,7 @@ unfoldable pub sheetBy : String → List ℕ
 unfolding bytes
 sheetBy code = bytes "G92X600.Y600.\nG98X0Y0I10.J10.P1K1\nU60\nX1.Y1.T2\nV60\n" ++ bytes code ++ bytes "W60Q1\nG50"
 
--- places for 4,096 hits
+-- places for 4,096 entries
 abbrev pub job : Job
 job = lending Hundredths 16384
 

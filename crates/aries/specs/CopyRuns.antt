@@ -15,7 +15,10 @@ use Rattle.aries.specs.declared.setup.Sheet.the-variants.{Plain, LaidOut
 use Rattle.aries.specs.declared.setup.Setup.{Setup}
 use Rattle.aries.specs.declared.state.Progress.{Progress}
 use Rattle.aries.specs.Outcome.{Out, done, refused}
-use Rattle.aries.specs.Hits.{Hit, Made}
+use Rattle.aries.specs.declared.entry.Hit.{Hit}
+use Rattle.aries.specs.declared.entry.Entry.{Entry}
+use Rattle.aries.specs.declared.entry.Entry.the-variants as Entry
+use Rattle.aries.specs.Entries.{Made, hitsIn}
 use Rattle.aries.specs.Judging.{Judging, limits, unjudged}
 use Rattle.aries.specs.Moves.{pointAt, zeroPoint, _⊕_, withState}
 use Rattle.aries.specs.Macros.{Body, Bodies, runBody}
@@ -26,7 +29,7 @@ use Rattle.aries.specs.Layouts.{copyStart, Part, partOf, copyPart}
 
 -- What a run depends on: what is stored under each number, what is set up, the job among it, the line of the block, the
 -- part that W names and the corner that Q names, and the progress before (the state, the count of blocks carried out and
--- of hits made).
+-- of entries made).
 pub record Circumstances : Type 0 where
   pub bodies : Bodies
   pub setup : Setup
@@ -50,10 +53,10 @@ byG76 c = run true c
 abbrev pub Accepted : Out (Made Progress) → Type 0
 Accepted out = (m : Made Progress) × (out ≡ done m)
 
--- the hits that it adds to the list
-abbrev pub hitsOf : Out (Made Progress) → List Hit
-hitsOf (done m) = m .hits
-hitsOf (refused number line) = []
+-- the entries that it adds to the list
+abbrev pub entriesOf : Out (Made Progress) → List Entry
+entriesOf (done m) = m .entries
+entriesOf (refused number line) = []
 
 -- which body is stored, if one is, wherever it stands in its text
 abbrev pub bytesOf : Option Body → Option (List ℕ)
@@ -65,20 +68,25 @@ abbrev pub called : Judging → Circumstances → Option Body → Part
 called j c none f g = refused 10 (c .line)
 called j c (some b) f g = partOf j (c .bodies) b f g
 
--- The part's own hits: those it makes when the block calls it once from the state found, with origin and current point
+-- The part's own entries: those it makes when the block calls it once from the state found, with origin and current point
 -- at (0, 0), no pattern origin waiting, and 3, 15, 16 and 17 not judged.
 abbrev pub ownRun : Circumstances → Out (Made Progress)
 ownRun c =
     called unjudged c (c .bodies (c .part)) (frameAt (ordinaryFrame (c .setup)) zeroPoint)
     (withState (c .before) (copyStart (c .before .state) zeroPoint))
 
-unfoldable pub ownHits : Circumstances → List Hit
+unfoldable pub ownEntries : Circumstances → List Entry
 unfolding runBody
-ownHits c = hitsOf (ownRun c)
+ownEntries c = entriesOf (ownRun c)
 
 -- a hit with a vector added to X and Y
-abbrev pub movedBy : Point → Hit → Hit
-movedBy v h = record { place = h .place ⊕ v; tool = h .tool; nibble = h .nibble }
+abbrev pub movedHit : Point → Hit → Hit
+movedHit v h = record { place = h .place ⊕ v; tool = h .tool; nibble = h .nibble }
+
+-- an entry moved by a vector: a hit has it added, a stop stays as it was
+abbrev pub movedBy : Point → Entry → Entry
+movedBy v (Entry.Hit h) = Entry.Hit (movedHit v h)
+movedBy v (Entry.Stop optional) = Entry.Stop optional
 
 -- ---- Places, by the paper's sentences on m
 
@@ -120,10 +128,10 @@ unfoldable pub joined : {A : Type 0} → (ℕ → List A) → ℕ → ℕ → Li
 joined f zero m = []
 joined f (suc n) m = f m ++ joined f n (suc m)
 
--- all the part's own hits in order, for each m in turn from 0 to (P + 1) × (K + 1) − 1, the place of m added
-abbrev pub laidOut : Bool → Layout → Circumstances → List Hit
+-- all the part's own entries in order, for each m in turn from 0 to (P + 1) × (K + 1) − 1, hits with the place of m added
+abbrev pub laidOut : Bool → Layout → Circumstances → List Entry
 laidOut vertical l c =
-    joined (λ m. map (movedBy (placeOf (c .setup .origin) l (c .corner) (cellOf vertical l m))) (ownHits c))
+    joined (λ m. map (movedBy (placeOf (c .setup .origin) l (c .corner) (cellOf vertical l m))) (ownEntries c))
     ((l .steps .x + 1) * (l .steps .y + 1)) 0
 
 -- ---- Runs that are compared
@@ -138,7 +146,7 @@ pub record SamePart (c d : Circumstances) : Type 0 where
   pub part : bytesOf (c .bodies (c .part)) ≡ bytesOf (d .bodies (d .part))
 
 abbrev pub freePlaces : Circumstances → ℕ
-freePlaces c = c .setup .job .places - c .before .hits
+freePlaces c = c .setup .job .places - c .before .entries
 
 -- Two runs with all of these alike: stored part, layout, starting corner and state before, the count of blocks carried out
 -- before and the free list places.
@@ -170,29 +178,29 @@ abbrev pub BothOrNeither : Type 0
 BothOrNeither = (c d : Circumstances) → AllAlike c d → Accepted (byG75 c) ↔ Accepted (byG76 d)
 
 -- a single row, a single column, both pitches zero, or no hit
-pub data Alike (l : Layout) (own : List Hit) : Type 0 where
+pub data Alike (l : Layout) (own : List Entry) : Type 0 where
   singleRow : l .steps .y ≡ 0 → Alike l own
   singleColumn : l .steps .x ≡ 0 → Alike l own
   noPitch : l .pitch .x ≡ 0 → l .pitch .y ≡ 0 → Alike l own
-  hitless : own ≡ [] → Alike l own
+  hitless : hitsIn own ≡ [] → Alike l own
 
--- Where both are accepted, their hits are equal, one by one in order, exactly when the layout is a single row or a single
+-- Where both are accepted, their entries are equal, one by one in order, exactly when the layout is a single row or a single
 -- column, or both pitches are zero, or the part makes no hit.
 abbrev pub EqualExactlyWhen : Type 0
 EqualExactlyWhen =
     (c d : Circumstances) (l : Layout) → AllAlike c d → c .setup .sheet ≡ LaidOut l → Accepted (byG75 c) → Accepted (byG76 d)
-    → (hitsOf (byG75 c) ≡ hitsOf (byG76 d)) ↔ Alike l (ownHits c)
+    → (entriesOf (byG75 c) ≡ entriesOf (byG76 d)) ↔ Alike l (ownEntries c)
 
--- The part of every accepted run is accepted by itself, and the hits of the run are the part's own hits, moved to each
--- place of the layout once, copy after copy.
+-- The part of every accepted run is accepted by itself, and the entries of the run are the part's own entries, copy after
+-- copy: in each copy the hits moved to its place of the layout, and the stops as they were.
 abbrev pub LayoutSentence : Type 0
 LayoutSentence =
     (vertical : Bool) (c : Circumstances) (l : Layout) → c .setup .sheet ≡ LaidOut l → Accepted (run vertical c)
-    → Accepted (ownRun c) × (hitsOf (run vertical c) ≡ laidOut vertical l c)
+    → Accepted (ownRun c) × (entriesOf (run vertical c) ≡ laidOut vertical l c)
 
 -- Moving the reference point by any vector and changing nothing else in the call or the state before moves every hit of
--- the run by it, tool, mode and order kept, where both runs are accepted.
+-- the run by it and leaves the stops as they were, tool, mode and order kept, where both runs are accepted.
 abbrev pub ReferenceMoves : Type 0
 ReferenceMoves =
     (vertical : Bool) (v : Point) (c d : Circumstances) → ReferenceMoved v c d → Accepted (run vertical c) → Accepted (run vertical d)
-    → hitsOf (run vertical d) ≡ map (movedBy v) (hitsOf (run vertical c))
+    → entriesOf (run vertical d) ≡ map (movedBy v) (entriesOf (run vertical c))

@@ -14,7 +14,7 @@ use Rattle.aries.specs.Letters.{letterA, letterB, letterG, letterM, lett
 use Rattle.aries.specs.Test.{among, every, anyOf, isEmpty, isSome}
 use Rattle.aries.specs.Text.{bytes}
 use Rattle.aries.specs.Words.{LetterWord}
-use Rattle.aries.specs.ByLetter.{isEntry, lookup, patternCodes, codes, mCodes, Letters, at, has, Words, isPlain, codeOf, isMeasure, byLetter}
+use Rattle.aries.specs.ByLetter.{hasRow, lookup, patternCodes, codes, mCodes, Letters, at, has, Words, isPlain, codeOf, isMeasure, byLetter}
 
 -- ---- Places (refusal 5): each rule is about a word and the words before it
 
@@ -29,7 +29,7 @@ nFirst before r = not (eqb (r .letter) letterN) || isEmpty before
 -- there is a code, that of a pattern
 abbrev pub isPatternCode : Option ℕ → Bool
 isPatternCode none = false
-isPatternCode (some code) = isEntry patternCodes code
+isPatternCode (some code) = hasRow patternCodes code
 
 -- A stands before the pattern's G, so no pattern code stands before A.
 abbrev pub aBeforePattern : List LetterWord → LetterWord → Bool
@@ -183,7 +183,7 @@ kindFits w G93 = true
 kindFits w G98 = true
 kindFits w Position = true
 kindFits w Lone = true
-kindFits w LetterM = isPlain (at w letterM) && isEntry mCodes (codeOf (at w letterM))
+kindFits w LetterM = isPlain (at w letterM) && hasRow mCodes (codeOf (at w letterM))
 kindFits w LetterB = true
 kindFits w LetterU = not (has w letterN)
 kindFits w LetterV = not (has w letterN)

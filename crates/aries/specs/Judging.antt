@@ -28,7 +28,7 @@ mostBlocks = 100000
 abbrev pub limits : Job → Judging
 limits job = record { blocks = some mostBlocks; bounds = true; places = some (job .places) }
 
--- a part's own hits: 3, 15, 16 and 17 are not judged
+-- a part's own entries: 3, 15, 16 and 17 are not judged
 abbrev pub unjudged : Judging
 unjudged = record { blocks = none; bounds = false; places = none }
 

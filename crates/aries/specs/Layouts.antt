@@ -16,7 +16,7 @@ use Rattle.aries.specs.declared.state.State.{State}
 use Rattle.aries.specs.declared.state.Frame.{Frame}
 use Rattle.aries.specs.declared.state.Progress.{Progress}
 use Rattle.aries.specs.Outcome.{Out, done, refused, _>>=_, need, given}
-use Rattle.aries.specs.Hits.{Made, noHit, andThen}
+use Rattle.aries.specs.Entries.{Made, noEntry, andThen}
 use Rattle.aries.specs.Judging.{Judging, judged, near}
 use Rattle.aries.specs.Lanes.{lane, along}
 use Rattle.aries.specs.Moves.{pointAt, _⊕_, movedTo, waitingFor, withState}
@@ -80,7 +80,7 @@ copy j part f line found p g = do
 -- copies m, m + 1, .., so many of them; after the last one the state is that copy's
 unfoldable pub copyAll : Judging → Part → Frame → ℕ → State → (ℕ → Point) → ℕ → ℕ → Progress → Out (Made Progress)
 unfolding copy
-copyAll j part f line found place zero m g = noHit g
+copyAll j part f line found place zero m g = noEntry g
 copyAll j part f line found place (suc n) m g = andThen (copy j part f line found (place m) g) (copyAll j part f line found place n (suc m))
 
 -- a body as the part that is copied, carried out with one call open

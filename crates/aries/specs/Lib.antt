@@ -12,7 +12,7 @@ pub mod Blocks
 pub mod Judging
 pub mod WidePoints
 pub mod Machine
-pub mod Hits
+pub mod Entries
 pub mod Moves
 pub mod Lanes
 pub mod Shear

@@ -6,7 +6,7 @@ use Prim.Native.Nat.{ℕ, zero, suc, _+_, _-_}
 use lib.Dec.{ltb}
 use lib.ListN.{getD, set, take, drop, replicate}
 use Rattle.aries.specs.declared.block.Direct.{Direct}
-use Rattle.aries.specs.declared.block.Direct.the-variants.{Lone, Punch, Move, PatternOrigin, RunPattern, Recall, Nibble, Idle}
+use Rattle.aries.specs.declared.block.Direct.the-variants.{Lone, Punch, Move, PatternOrigin, RunPattern, Recall, Nibble, Idle, Stop}
 use Rattle.aries.specs.declared.block.Block.{Block}
 use Rattle.aries.specs.declared.block.Block.the-variants as Block
 use Rattle.aries.specs.declared.block.Measure.{Measure}
@@ -22,9 +22,9 @@ use Rattle.aries.specs.Text.{lines, startsWith}
 use Rattle.aries.specs.Reader.{readerOf}
 use Rattle.aries.specs.Numbers.{lastMacro}
 use Rattle.aries.specs.Blocks.{decode}
-use Rattle.aries.specs.Hits.{Made, noHit, andThen}
+use Rattle.aries.specs.Entries.{Made, noEntry, andThen}
 use Rattle.aries.specs.Judging.{Judging, room}
-use Rattle.aries.specs.Moves.{measuring, dropping, inMode, withState, position, move, setPatternOrigin}
+use Rattle.aries.specs.Moves.{measuring, dropping, inMode, withState, position, move, setPatternOrigin, stop}
 use Rattle.aries.specs.Patterns.{runPattern, recall}
 
 -- ---- Bodies
@@ -79,17 +79,18 @@ characters m = sizes (m .start) (m .end)
 
 -- One direct block that has been decoded and counted. A lone G90 or G91 has set how X and Y are read as it began, punches
 -- nothing, and counts as a position block. T without X or Y stands only beside a pattern code. B runs a pattern and is no
--- call. M12 and M13 set the mode, M00, M01, M08 and M09 make no hit.
+-- call. M12 and M13 set the mode, M08 and M09 do nothing, M00 and M01 are stops.
 unfoldable pub carryDirect : Judging → Frame → ℕ → Direct → Progress → Out (Made Progress)
 unfolding position move setPatternOrigin runPattern recall
-carryDirect j f line Lone g = noHit (withState g (dropping (g .state)))
+carryDirect j f line Lone g = noEntry (withState g (dropping (g .state)))
 carryDirect j f line (Punch a t) g = position j f line a t g
 carryDirect j f line (Move a t) g = move j f line a t g
 carryDirect j f line (PatternOrigin a) g = setPatternOrigin j f line a g
 carryDirect j f line (RunPattern p t a) g = runPattern j f line p t a g
 carryDirect j f line (Recall n) g = recall j f line n g
-carryDirect j f line (Nibble b) g = noHit (withState g (inMode (g .state) b))
-carryDirect j f line Idle g = noHit g
+carryDirect j f line (Nibble b) g = noEntry (withState g (inMode (g .state) b))
+carryDirect j f line Idle g = noEntry g
+carryDirect j f line (Stop optional) g = stop j line optional g
 
 -- what a call of a macro does, by the frame, its number and the line of the call
 abbrev pub Calls : Type 0
@@ -115,7 +116,7 @@ mayCome j l g = not (isCounted l) || room (j .blocks) (g .blocks)
 
 -- it counts, and its G90 or G91 holds
 abbrev pub begun : Bool → Measure → Progress → Progress
-begun counted m g = record { state = measuring (g .state) m; blocks = cond counted (g .blocks + 1) (g .blocks); hits = g .hits }
+begun counted m g = record { state = measuring (g .state) m; blocks = cond counted (g .blocks + 1) (g .blocks); entries = g .entries }
 
 -- the block of a line, and the progress as the block finds it
 pub record Begun : Type 0 where
@@ -143,13 +144,13 @@ runBlock j call f line l g = do
 
 -- a blank line does nothing
 abbrev pub runLine : Judging → Calls → Frame → ℕ → List ℕ → Progress → Out (Made Progress)
-runLine j call f line [] g = noHit g
+runLine j call f line [] g = noEntry g
 runLine j call f line (b ∷ bs) g = runBlock j call f line (b ∷ bs) g
 
 -- lines in turn, the first with a number
 unfoldable pub runLines : Judging → Calls → Frame → ℕ → List (List ℕ) → Progress → Out (Made Progress)
 unfolding runBlock
-runLines j call f line [] g = noHit g
+runLines j call f line [] g = noEntry g
 runLines j call f line (l ∷ ls) g = andThen (runLine j call f line l g) (runLines j call f (suc line) ls)
 
 -- ---- Calls: W, here; G75 and G76 (Layouts.copyPart); the first run of macros 1 to 59 (Bodies.openBody)

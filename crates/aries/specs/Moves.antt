@@ -1,4 +1,4 @@
--- The punching state, positions and hits. (Document 01, "Moving and punching"; refusals 14 to 17.)
+-- The punching state, positions, hits and stops. (Document 01, "Moving and punching"; document 02, §3; refusals 14 to 17.)
 use mathlib.Core.Bool.{Bool, true, false, cond}
 use mathlib.Core.List.{List, [], _∷_}
 use Prim.Native.Nat.{ℕ, _+_, _-_}
@@ -22,7 +22,9 @@ use Rattle.aries.specs.declared.state.Progress.{Progress}
 use Rattle.aries.specs.Outcome.{Out, done, refused, _>>=_, need}
 use Rattle.aries.specs.Numbers.{memoryCount}
 use Rattle.aries.specs.Machine.{covers, inRange}
-use Rattle.aries.specs.Hits.{Hit, Made, noHit}
+use Rattle.aries.specs.declared.entry.Entry.{Entry}
+use Rattle.aries.specs.declared.entry.Entry.the-variants as Entry
+use Rattle.aries.specs.Entries.{Made, noEntry}
 use Rattle.aries.specs.Judging.{Judging, room, judged, near}
 
 abbrev pub pointAt : ℤ → ℤ → Point
@@ -125,12 +127,12 @@ dropping s = waitingFor s Unset
 abbrev pub freshState : State
 freshState = record { current = zeroPoint; waiting = record { origin = Unset }; incremental = false; nibble = false; tool = 0; memories = replicate memoryCount (record { stored = Stored.Empty }) }
 
--- nothing has been carried out and nothing hit
+-- nothing has been carried out and no entry made
 abbrev pub freshProgress : Progress
-freshProgress = record { state = freshState; blocks = 0; hits = 0 }
+freshProgress = record { state = freshState; blocks = 0; entries = 0 }
 
 abbrev pub withState : Progress → State → Progress
-withState g s = record { state = s; blocks = g .blocks; hits = g .hits }
+withState g s = record { state = s; blocks = g .blocks; entries = g .entries }
 
 -- ---- Positions
 
@@ -145,27 +147,30 @@ target f s a =
     (axisTarget (a .x) (s .incremental) (f .origin .x) (s .current .x))
     (axisTarget (a .y) (s .incremental) (f .origin .y) (s .current .y))
 
--- ---- A hit, and what is judged of it
+-- ---- Entries, and what is judged of them
 
-abbrev pub hitOf : State → Point → Hit
-hitOf s p = record { place = p; tool = s .tool; nibble = s .nibble }
+-- an entry is made, and counts
+abbrev pub entered : Entry → Progress → Made Progress
+entered e g = record { entries = e ∷ []; after = record { state = g .state; blocks = g .blocks; entries = g .entries + 1 } }
 
--- a hit at p, which becomes the current point
-abbrev pub hitting : Progress → Point → Made Progress
-hitting g p =
-    record {
-      hits = hitOf (g .state) p ∷ [];
-      after = record { state = movedTo (g .state) p; blocks = g .blocks; hits = g .hits + 1 };
-    }
+-- 17: an entry takes a place of the list
+abbrev pub enter : Judging → ℕ → Entry → Progress → Out (Made Progress)
+enter j line e g = do
+  _ ← need (room (j .places) (g .entries)) 17 line
+  done (entered e g)
 
+-- a hit at p, with the tool chosen and in the mode
+abbrev pub hitOf : State → Point → Entry
+hitOf s p = Entry.Hit (record { place = p; tool = s .tool; nibble = s .nibble })
+
+-- a hit at p, which becomes the current point: 14 to 17
 unfoldable pub punch : Judging → Frame → ℕ → Point → Progress → Out (Made Progress)
 unfolding near covers
 punch j f line p g = do
   _ ← need (ltb 0 (g .state .tool)) 14 line
   _ ← need (judged (j .bounds) (near p)) 15 line
   _ ← need (judged (j .bounds) (inRange f p)) 16 line
-  _ ← need (room (j .places) (g .hits)) 17 line
-  done (hitting g p)
+  enter j line (hitOf (g .state) p) (withState g (movedTo (g .state) p))
 
 -- A position block, X or Y with or without T, punches. T chooses the tool first.
 unfoldable pub position : Judging → Frame → ℕ → Axes → ℕ → Progress → Out (Made Progress)
@@ -178,11 +183,15 @@ unfolding near covers
 move j f line a t g = do
   _ ← need (judged (j .bounds) (near (target f (g .state) a))) 15 line
   _ ← need (judged (j .bounds) (inRange f (target f (g .state) a))) 16 line
-  noHit (withState g (movedTo (dropping (choosing (g .state) t)) (target f (g .state) a)))
+  noEntry (withState g (movedTo (dropping (choosing (g .state) t)) (target f (g .state) a)))
 
 -- G72 sets the waiting pattern origin by the same rules, an omitted axis being the current point's; the current point stays.
 unfoldable pub setPatternOrigin : Judging → Frame → ℕ → Axes → Progress → Out (Made Progress)
 unfolding near
 setPatternOrigin j f line a g = do
   _ ← need (judged (j .bounds) (near (target f (g .state) a))) 15 line
-  noHit (withState g (waitingFor (g .state) (At (target f (g .state) a))))
+  noEntry (withState g (waitingFor (g .state) (At (target f (g .state) a))))
+
+-- M00 makes a stop, M01 an optional one: no tool is needed, no position is judged, and nothing of the state changes.
+abbrev pub stop : Judging → ℕ → Bool → Progress → Out (Made Progress)
+stop j line optional g = enter j line (Entry.Stop optional) g

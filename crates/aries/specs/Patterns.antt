@@ -19,7 +19,7 @@ use Rattle.aries.specs.declared.state.State.{State}
 use Rattle.aries.specs.declared.state.Frame.{Frame}
 use Rattle.aries.specs.declared.state.Progress.{Progress}
 use Rattle.aries.specs.Outcome.{Out, done, refused, _>>=_, need}
-use Rattle.aries.specs.Hits.{Made, noHit, andThen, mapAfter}
+use Rattle.aries.specs.Entries.{Made, noEntry, andThen, mapAfter}
 use Rattle.aries.specs.Judging.{Judging, judged, isNear}
 use Rattle.aries.specs.Lanes.{lane, along}
 use Rattle.aries.specs.Shear.{isFit, steps, shearOffset}
@@ -102,7 +102,7 @@ shearIsFit (Shear j s) = isFit s
 -- hits at start plus the offsets of hits k, k + 1, .., so many of them
 unfoldable pub punches : Judging → Frame → ℕ → Pattern → Point → ℕ → ℕ → Progress → Out (Made Progress)
 unfolding punch hitOffset
-punches j f line p start zero k g = noHit g
+punches j f line p start zero k g = noEntry g
 punches j f line p start (suc n) k g = andThen (punch j f line (start ⊕ hitOffset p k) g) (punches j f line p start n (suc k))
 
 -- a waiting pattern origin, else the current point

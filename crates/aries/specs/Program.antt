@@ -7,7 +7,7 @@ use Prim.Native.Nat.{ℕ, zero, suc, _+_, _-_}
 use lib.IntN.{ℤ, pos}
 use lib.ListN.{length, replicate}
 use Rattle.aries.specs.declared.answer.Answer.{Answer}
-use Rattle.aries.specs.declared.answer.Answer.the-variants.{Hits, Refused}
+use Rattle.aries.specs.declared.answer.Answer.the-variants.{Entries, Refused}
 use Rattle.aries.specs.declared.block.Outside.{Outside}
 use Rattle.aries.specs.declared.block.Outside.the-variants as Outside
 use Rattle.aries.specs.declared.block.Block.{Block}
@@ -27,7 +27,8 @@ use Rattle.aries.specs.Outcome.{Out, done, refused, _>>=_, need}
 use Rattle.aries.specs.Test.{within}
 use Rattle.aries.specs.Letters.{letterV}
 use Rattle.aries.specs.Text.{longest, strayLine, withoutSpaces, lines, startsWith}
-use Rattle.aries.specs.Hits.{Hit, cells, Made, noHit, andThen, mapAfter}
+use Rattle.aries.specs.declared.entry.Entry.{Entry}
+use Rattle.aries.specs.Entries.{cells, Made, noEntry, andThen, mapAfter}
 use Rattle.aries.specs.Judging.{Judging, lending, limits}
 use Rattle.aries.specs.Reader.{settingOf}
 use Rattle.aries.specs.Machine.{named}
@@ -91,13 +92,13 @@ startAs p q m =
 -- 8: G92 names one of the machines.
 abbrev pub started : Program → Point → ℕ → Named → Out (Made Program)
 started p q line Neither = refused 8 line
-started p q line (As m) = noHit (startAs p q m)
+started p q line (As m) = noEntry (startAs p q m)
 
 -- G93 and G98: neither moves the current point or drops a waiting origin.
 abbrev pub settled : Program → Out Setup → Out (Made Program)
 settled p out = do
   s ← out
-  noHit (withSetup p s)
+  noEntry (withSetup p s)
 
 -- after a U line the lines of its body are passed over
 abbrev pub withStore : Program → Store → Program
@@ -107,7 +108,7 @@ withStore p st = record { stage = Storing; setup = p .setup; macros = st .macros
 unfoldable pub carryOutside : Judging → List ℕ → ℕ → ℕ → List (List ℕ) → Outside → Program → Out (Made Program)
 unfolding named setOrigin openBody copyPart bodiesOf
 carryOutside j text next line ls (Outside.Machine q) p = started p q line (named q)
-carryOutside j text next line ls Outside.End p = noHit (atStage Ended p)
+carryOutside j text next line ls Outside.End p = noEntry (atStage Ended p)
 carryOutside j text next line ls (Outside.Offset a) p = settled p (setOrigin j line (p .setup .sheet) (offsetBy a (p .setup .offset)) (p .setup))
 carryOutside j text next line ls (Outside.Layout l) p = settled p (setOrigin j line (LaidOut l) (p .setup .offset) (p .setup))
 carryOutside j text next line ls (Outside.Open n) p = mapAfter (withStore p) (openBody j text n next line ls (p .setup) (withStored (p .macros) (p .progress)))
@@ -136,7 +137,7 @@ isStoring Ended = false
 
 -- A line between a U line and its V line was read with the U line; the V line ends that.
 abbrev pub passOver : List ℕ → Program → Out (Made Program)
-passOver l p = elim (startsWith letterV l) [ true ↦ noHit (atStage Running p) | false ↦ noHit p ]
+passOver l p = elim (startsWith letterV l) [ true ↦ noEntry (atStage Running p) | false ↦ noEntry p ]
 
 -- A block outside bodies.
 unfoldable pub runBlockOutside : Judging → List ℕ → ℕ → ℕ → List ℕ → List (List ℕ) → Program → Out (Made Program)
@@ -148,7 +149,7 @@ runBlockOutside j text next line l ls p = do
 
 -- a blank line does nothing
 abbrev pub runLineOutside : Judging → List ℕ → ℕ → ℕ → List ℕ → List (List ℕ) → Program → Out (Made Program)
-runLineOutside j text next line [] ls p = noHit p
+runLineOutside j text next line [] ls p = noEntry p
 runLineOutside j text next line (b ∷ bs) ls p = elim (isStoring (p .stage)) [
   | true ↦ passOver (b ∷ bs) p
   | false ↦ runBlockOutside j text next line (b ∷ bs) ls p
@@ -157,7 +158,7 @@ runLineOutside j text next line (b ∷ bs) ls p = elim (isStoring (p .stage)) [
 -- the lines of a text from a place on, the first with a number
 unfoldable pub runFrom : Judging → List ℕ → ℕ → ℕ → List (List ℕ) → Program → Out (Made Program)
 unfolding runBlockOutside
-runFrom j text at line [] p = noHit p
+runFrom j text at line [] p = noEntry p
 runFrom j text at line (l ∷ ls) p =
     andThen (runLineOutside j text (at + length l + 1) line l ls p) (runFrom j text (at + length l + 1) (suc line) ls)
 
@@ -175,16 +176,16 @@ noStray none = done tt
 noStray (some line) = refused 2 line
 
 -- the blocks of a text without spaces; it ends with G50, else it is refused in the last line
-unfoldable pub perform : Job → List ℕ → ℕ → Out (List Hit)
+unfoldable pub perform : Job → List ℕ → ℕ → Out (List Entry)
 unfolding runFrom lines
 perform job text last = do
   m ← runFrom (limits job) text 0 1 (lines text) (freshProgram job)
   _ ← need (isEnded (m .after .stage)) 7 last
-  done (m .hits)
+  done (m .entries)
 
--- The hits of a text, or its refusal, at a setting that the caller states by a number, with a lent list of so many numbers. 1
+-- The entries of a text, or its refusal, at a setting that the caller states by a number, with a lent list of so many numbers. 1
 -- and 2 look at the whole text first.
-unfoldable pub expand : ℤ → List ℕ → ℕ → Out (List Hit)
+unfoldable pub expand : ℤ → List ℕ → ℕ → Out (List Entry)
 unfolding perform strayLine withoutSpaces
 expand setting text numbers = do
   _ ← need (within 1 longest (length text)) 1 0
@@ -193,26 +194,26 @@ expand setting text numbers = do
 
 -- ---- The answer
 
--- 0 with the number of hits, or a refusal with its line
-abbrev pub answerOf : Out (List Hit) → Answer
-answerOf (done hits) = Hits (length hits)
+-- 0 with the number of entries, or a refusal with its line
+abbrev pub answerOf : Out (List Entry) → Answer
+answerOf (done entries) = Entries (length entries)
 answerOf (refused number line) = Refused number line
 
 -- the paper's number, count and line of an answer; a count after a refusal and a line after acceptance are 0
 abbrev pub numberOf : Answer → ℕ
-numberOf (Hits count) = 0
+numberOf (Entries count) = 0
 numberOf (Refused number line) = number
 
 abbrev pub countOf : Answer → ℕ
-countOf (Hits count) = count
+countOf (Entries count) = count
 countOf (Refused number line) = 0
 
 abbrev pub lineOf : Answer → ℕ
-lineOf (Hits count) = 0
+lineOf (Entries count) = 0
 lineOf (Refused number line) = line
 
--- The lent list afterwards, so many numbers long: the hits, and the rest, after a refusal all of it, zero.
-unfoldable pub listOf : ℕ → Out (List Hit) → List ℤ
+-- The lent list afterwards, so many numbers long: the entries, and the rest, after a refusal all of it, zero.
+unfoldable pub listOf : ℕ → Out (List Entry) → List ℤ
 unfolding cells
-listOf numbers (done hits) = cells hits ++ replicate (numbers - length (cells hits)) (pos 0)
+listOf numbers (done entries) = cells entries ++ replicate (numbers - length (cells entries)) (pos 0)
 listOf numbers (refused number line) = replicate numbers (pos 0)

@@ -5,7 +5,7 @@ use mathlib.Core.Bool.{cond}
 use mathlib.Core.List.{List, [], _∷_}
 use Prim.Native.Nat.{ℕ, _+_, _*_, _/_, _≤_}
 use lib.Dec.{ltb}
-use lib.IntN.{ℤ, pos}
+use lib.IntN.{ℤ}
 use lib.ListN.{length, set}
 use Rattle.aries.specs.declared.job.Job.{Job}
 use Rattle.aries.specs.declared.state.Frame.{Frame}
@@ -16,7 +16,8 @@ use Rattle.aries.specs.declared.state.Progress.{Progress}
 use Rattle.aries.specs.declared.setup.Program.{Program}
 use Rattle.aries.specs.declared.setup.Advance.{Advance}
 use Rattle.aries.specs.Outcome.{Out, done, refused}
-use Rattle.aries.specs.Hits.{Hit, Made, modeNumber}
+use Rattle.aries.specs.declared.entry.Entry.{Entry}
+use Rattle.aries.specs.Entries.{Made, numbersOf}
 use Rattle.aries.specs.Judging.{Judging, limits}
 
 abbrev pub statusOf : {A : Type 0} → Out A → Status
@@ -32,45 +33,45 @@ pub record Lent : Type 0 where
 abbrev pub lent : List ℤ → Lent
 lent l = record { list = l }
 
--- the list with a hit at place k, four numbers a place
-abbrev pub write : List ℤ → ℕ → Hit → List ℤ
-write l k h =
+-- the list with an entry at place k, four numbers a place
+abbrev pub write : List ℤ → ℕ → Entry → List ℤ
+write l k e =
     set
-    (set (set (set l (4 * k) (h .place .x)) (4 * k + 1) (h .place .y)) (4 * k + 2) (pos (h .tool)))
+    (set (set (set l (4 * k) (numbersOf e .x)) (4 * k + 1) (numbersOf e .y)) (4 * k + 2) (numbersOf e .tool))
     (4 * k + 3)
-    (modeNumber (h .nibble))
+    (numbersOf e .mode)
 
--- a hit at place k, where the list has that place
-abbrev pub put : Lent → ℕ → Hit → Lent
-put l k h = lent (cond (ltb k (length (l .list) / 4)) (write (l .list) k h) (l .list))
+-- an entry at place k, where the list has that place
+abbrev pub put : Lent → ℕ → Entry → Lent
+put l k e = lent (cond (ltb k (length (l .list) / 4)) (write (l .list) k e) (l .list))
 
--- hits from place k on
-unfoldable pub over : Lent → ℕ → List Hit → Lent
+-- entries from place k on
+unfoldable pub over : Lent → ℕ → List Entry → Lent
 over l k [] = l
-over l k (h ∷ hs) = over (put l k h) (k + 1) hs
+over l k (e ∷ es) = over (put l k e) (k + 1) es
 
 -- ---- What was done
 
--- A status, what is left with its count of hits, and what is lent before and after, against what the definitions make,
--- from place k on: where that is accepted, just its hits were put, the count goes with them, and they had places.
-pub record Ran {A : Type 0} (hitsOf : A → ℕ) (job : Job) (status : Status) (left : A) (before after : Lent) (k : ℕ) (out : Out (Made A)) : Type 0 where
+-- A status, what is left with its count of entries, and what is lent before and after, against what the definitions make,
+-- from place k on: where that is accepted, just its entries were put, the count goes with them, and they had places.
+pub record Ran {A : Type 0} (count : A → ℕ) (job : Job) (status : Status) (left : A) (before after : Lent) (k : ℕ) (out : Out (Made A)) : Type 0 where
   pub same-status : status ≡ statusOf out
   pub same-left : (m : Made A) → out ≡ done m → left ≡ m .after
-  pub written : (m : Made A) → out ≡ done m → after ≡ over before k (m .hits)
-  pub counted : (m : Made A) → out ≡ done m → hitsOf left ≡ k + length (m .hits)
-  pub fitted : (m : Made A) → out ≡ done m → k ≤ job .places → hitsOf left ≤ job .places
+  pub written : (m : Made A) → out ≡ done m → after ≡ over before k (m .entries)
+  pub counted : (m : Made A) → out ≡ done m → count left ≡ k + length (m .entries)
+  pub fitted : (m : Made A) → out ≡ done m → k ≤ job .places → count left ≤ job .places
 
-abbrev pub hitsMade : Progress → ℕ
-hitsMade g = g .hits
+abbrev pub entriesMade : Progress → ℕ
+entriesMade g = g .entries
 
 -- Something carried out in a frame from a progress on, by what it is under the limits of its job.
 abbrev pub Carried : Outcome → Frame → Lent → Lent → Progress → (Judging → Progress → Out (Made Progress)) → Type 0
-Carried r f before after g what = Ran hitsMade (f .job) (r .status) (r .progress) before after (g .hits) (what (limits (f .job)) g)
+Carried r f before after g what = Ran entriesMade (f .job) (r .status) (r .progress) before after (g .entries) (what (limits (f .job)) g)
 
-abbrev pub hitsOfProgram : Program → ℕ
-hitsOfProgram p = p .progress .hits
+abbrev pub entriesOfProgram : Program → ℕ
+entriesOfProgram p = p .progress .entries
 
 -- Lines outside bodies, from a program on.
 abbrev pub Advanced : Advance → Lent → Lent → Program → (Judging → Program → Out (Made Program)) → Type 0
 Advanced r before after p what =
-    Ran hitsOfProgram (p .setup .job) (r .status) (r .program) before after (p .progress .hits) (what (limits (p .setup .job)) p)
+    Ran entriesOfProgram (p .setup .job) (r .status) (r .program) before after (p .progress .entries) (what (limits (p .setup .job)) p)

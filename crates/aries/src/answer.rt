@@ -1,5 +1,5 @@
-// What a text comes to: the count of its hits, or a refusal's number and line.
+// What a text comes to: the count of its entries, or a refusal's number and line.
 pub enum Answer {
-    Hits(usize),
+    Entries(usize),
     Refused(u8, u64),
 }

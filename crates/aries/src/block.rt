@@ -125,8 +125,10 @@ pub enum Direct {
     Recall(u8),
     // M12, and M13 with false
     Nibble(bool),
-    // M00, M01, M08, M09
+    // M08, M09
     Idle,
+    // M01, and M00 with false
+    Stop(bool),
 }
 
 // A block that stands only outside bodies.

@@ -2,7 +2,7 @@ use crate::reader::Setting;
 ghost use mathlib.Core.Path.{_≡_};
 ghost use Rattle.aries.specs.Judging.{lending};
 
-// The numbers of a hit in the list: X, Y, tool and mode.
+// The numbers of an entry in the list: X, Y, tool and mode.
 pub const NUMBERS: usize = 4;
 
 // What the caller fixes for a whole text: the decimal point setting, and the places of the lent list.

@@ -2,6 +2,7 @@
 // What they mean is said by the definitions in specs/, which follow document 01 in its order.
 pub mod answer; // what a text comes to
 pub mod block; // what a block asks for
+pub mod entry; // the entries of the list
 pub mod job; // what the caller fixes
 pub mod machine; // the two machines and their punching range
 pub mod macros; // the bodies that are stored

@@ -231,11 +231,11 @@ impl Frame {
     }
 }
 
-// A state with the count of blocks carried out and of hits made so far.
+// A state with the count of blocks carried out and of entries made so far.
 pub struct Progress {
     pub state: State,
     pub blocks: u32,
-    pub hits: usize,
+    pub entries: usize,
 }
 
 impl Progress {
@@ -247,7 +247,7 @@ impl Progress {
         Progress {
             state,
             blocks: 0,
-            hits: 0,
+            entries: 0,
         }
     }
 

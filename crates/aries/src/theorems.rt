@@ -13,17 +13,18 @@ pub fn both_or_neither()
     ensures { λ _. ⌜ BothOrNeither ⌝ }
 {}
 
-// Demand 3: their hits are equal exactly for a single row or column, without pitches, or without a hit.
+// Demand 3: their entries are equal exactly for a single row or column, without pitches, or without a hit.
 pub fn equal_exactly_when()
     ensures { λ _. ⌜ EqualExactlyWhen ⌝ }
 {}
 
-// Demand 3: the hits of every accepted run are the part's own hits, moved to each place of the layout once, in order.
+// Demand 3: the entries of every accepted run are the part's own entries once for each place of the layout, in order: the
+// hits moved there, the stops as they are.
 pub fn layout_sentence()
     ensures { λ _. ⌜ LayoutSentence ⌝ }
 {}
 
-// Demand 3: moving the reference point by any vector moves every hit by it.
+// Demand 3: moving the reference point by any vector moves every hit by it and leaves the stops.
 pub fn reference_moves()
     ensures { λ _. ⌜ ReferenceMoves ⌝ }
 {}

@@ -3,7 +3,7 @@ ghost use mathlib.Core.Bool.{cond, _&&_};
 ghost use mathlib.Core.List.{[], _∷_};
 ghost use Prim.Native.Nat.{_+_, _≤_};
 ghost use lib.Dec.{eqb};
-ghost use Rattle.aries.specs.ByLetter.{isEntry, mCodes, isPlain, codeOf};
+ghost use Rattle.aries.specs.ByLetter.{hasRow, mCodes, isPlain, codeOf};
 ghost use Rattle.aries.specs.Forms.{neither, form, formOf, besideFits, kindFits};
 ghost use Rattle.blocks.specs.Counting.{present, countFits, isCounted};
 ghost use Rattle.words.specs.Keeping.{lettersOf, measureBy};
@@ -121,7 +121,7 @@ fn beside_fits(summary: Summary, kind: Kind) -> bool
 
 // Whether an M word is one of the M codes, which go by their number and have no sign or point.
 fn is_m_code(v: Word) -> bool
-    ensures { λ r. ⌜ r ≡ (isPlain v && isEntry mCodes (codeOf v)) ⌝ }
+    ensures { λ r. ⌜ r ≡ (isPlain v && hasRow mCodes (codeOf v)) ⌝ }
 {
     let n = size_of(v);
     is_plain(v) & ((n == 0) | (n == 1) | (n == 8) | (n == 9) | (n == 12) | (n == 13))

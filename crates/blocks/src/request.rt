@@ -232,10 +232,16 @@ fn pattern_block(forms: &[u8; 26], numbers: &[i32; 26], p: Pattern) -> Block
     Block::Direct(Direct::RunPattern(p, tool, memory))
 }
 
-// An M code: M12 and M13 set the mode, the others make no hit.
+// An M code: M00 and M01 are stops, M12 and M13 set the mode, the others do nothing.
 fn m_block(n: u32) -> Block
     ensures { λ r. ⌜ r ≡ mBlock n ⌝ }
 {
+    if n == 0 {
+        return Block::Direct(Direct::Stop(false));
+    }
+    if n == 1 {
+        return Block::Direct(Direct::Stop(true));
+    }
     if n == 12 {
         return Block::Direct(Direct::Nibble(true));
     }

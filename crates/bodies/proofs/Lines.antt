@@ -13,18 +13,18 @@ use Rattle.aries.specs.declared.block.Block.the-variants as Block
 use Rattle.aries.specs.declared.state.Frame.{Frame}
 use Rattle.aries.specs.declared.state.Progress.{Progress}
 use Rattle.aries.specs.Outcome.{Out, done, refused, _>>=_}
-use Rattle.aries.specs.Hits.{Made, adding, andThen}
+use Rattle.aries.specs.Entries.{Made, adding, andThen}
 use Rattle.aries.specs.Judging.{Judging}
 use Rattle.aries.specs.Macros.{Calls, carryDirect, carry, Begun, begin, runBlock, runLine, runLines}
 use Rattle.aries.specs.Text.{lines, lineFeed}
 use Rattle.aries.proofs.Outcomes.{adding-then}
-use Rattle.aries.proofs.Runs.{no-hit-then}
+use Rattle.aries.proofs.Runs.{no-entry-then}
 use Rattle.text.specs.Lines.{lineLength}
 use Rattle.text.proofs.Lines.{line-ends, lines-at, lines-past}
-use Rattle.stretches.specs.declared.Stop.{Stop}
-use Rattle.stretches.specs.declared.Stop.the-variants as Stop
+use Rattle.stretches.specs.declared.Sequel.{Sequel}
+use Rattle.stretches.specs.declared.Sequel.the-variants as Sequel
 use Rattle.stretches.specs.Stretches.{Stretched, stepOf, blockStep, begunStep, lineStep, onward, stretch}
-use Rattle.stretches.proofs.Stops.{first-line}
+use Rattle.stretches.proofs.Sequels.{first-line}
 use Rattle.bodies.specs.Rest.{rest}
 
 module _ (j : Judging) (c : Calls) (f : Frame) where
@@ -44,7 +44,7 @@ module _ (j : Judging) (c : Calls) (f : Frame) where
           let a : end + 0 + 1 ≡ end + 1 = omega arith in
           sym
           (ap (λ (ls : List (List ℕ)). runLines j c f line ls g) (lines-at t end i)
-          ∙ rw z (rw a (no-hit-then g (runLines j c f (suc line) (lines (drop (end + 1) t))))))
+          ∙ rw z (rw a (no-entry-then g (runLines j c f (suc line) (lines (drop (end + 1) t))))))
       go false e =
           let i : length t ≤ end = ltb-false end (length t) e in
           rw (lines-past t (end + 1) (omega arith), lines-past t end i) refl
@@ -53,7 +53,7 @@ module _ (j : Judging) (c : Calls) (f : Frame) where
 
   module _ (t : List ℕ) where
     abbrev all : Stretched → Out (Made Progress)
-    all s = andThen (s .made) (rest j c f t (s .stop))
+    all s = andThen (s .made) (rest j c f t (s .sequel))
 
     -- a line, and what follows it
     line-all :
@@ -62,16 +62,16 @@ module _ (j : Judging) (c : Calls) (f : Frame) where
         → ((g : Progress) → next g ≡ all (later g)) → ((g : Progress) → next g ≡ runLines j c f line (lines (drop (at + length l) t)) g)
         → andThen (runLine j c f line l g) next ≡ all (onward (lineStep j f (at + length l) line l g) later)
     unfolding runBlock carry
-    line-all at line [] g next later feed same past = ap (adding []) (same g) ∙ adding-then [] (later g .made) (rest j c f t (later g .stop))
+    line-all at line [] g next later feed same past = ap (adding []) (same g) ∙ adding-then [] (later g .made) (rest j c f t (later g .sequel))
     line-all at line (b ∷ bs) g next later feed same past = begins (begin j f line (b ∷ bs) g)
       where
         carried : (out : Out (Made Progress)) → andThen out next ≡ all (onward (stepOf out) later)
-        carried (done m) = ap (adding (m .hits)) (same (m .after)) ∙ adding-then (m .hits) (later (m .after) .made) (rest j c f t (later (m .after) .stop))
+        carried (done m) = ap (adding (m .entries)) (same (m .after)) ∙ adding-then (m .entries) (later (m .after) .made) (rest j c f t (later (m .after) .sequel))
         carried (refused number place) = refl
 
         blocks : (d : Block) (g : Progress) → andThen (carry j c f line d g) next ≡ all (onward (blockStep j f (at + length (b ∷ bs)) line d g) later)
         blocks (Block.Direct d) g = carried (carryDirect j f line d g)
-        blocks (Block.Call n) g = ap (andThen (c f n line g)) (fun-ext past) ∙ sym (no-hit-then g (rest j c f t (Stop.Call n (at + length (b ∷ bs)) line)))
+        blocks (Block.Call n) g = ap (andThen (c f n line g)) (fun-ext past) ∙ sym (no-entry-then g (rest j c f t (Sequel.Call n (at + length (b ∷ bs)) line)))
         blocks (Block.Outside o) g = refl
 
         begins :

@@ -8,52 +8,53 @@ use lib.ListN.{length, drop}
 use Rattle.aries.specs.declared.state.Frame.{Frame}
 use Rattle.aries.specs.declared.state.Progress.{Progress}
 use Rattle.aries.specs.Outcome.{Out, done, refused}
-use Rattle.aries.specs.Hits.{Hit, Made, noHit, andThen}
+use Rattle.aries.specs.declared.entry.Entry.{Entry}
+use Rattle.aries.specs.Entries.{Made, noEntry, andThen}
 use Rattle.aries.specs.Judging.{Judging, limits}
 use Rattle.aries.specs.Macros.{Calls, runLines}
-use Rattle.aries.specs.Runs.{Lent, hitsMade, Ran}
+use Rattle.aries.specs.Runs.{Lent, entriesMade, Ran}
 use Rattle.aries.specs.Text.{lines}
 use Rattle.aries.proofs.Runs.{Leads, leads-start, leads-as, leads-on, passed-as}
-use Rattle.stretches.specs.declared.Stop.{Stop}
-use Rattle.stretches.specs.declared.Stop.the-variants as Stop
+use Rattle.stretches.specs.declared.Sequel.{Sequel}
+use Rattle.stretches.specs.declared.Sequel.the-variants as Sequel
 use Rattle.stretches.specs.declared.Stretch.{Stretch}
 use Rattle.stretches.specs.Stretches.{Stretched, stretch, isEnd, LinesFit, Stretches}
-use Rattle.stretches.proofs.Stops.{Stops, stretch-stops, stretch-passes}
+use Rattle.stretches.proofs.Sequels.{SequelBehind, stretch-behind, stretch-passes}
 use Rattle.bodies.specs.Rest.{rest, RestFits}
 use Rattle.bodies.proofs.Lines.{lines-stretched}
 
 -- its line numbers fit, where those of the stretch did
-pub rest-fits : (t : List ℕ) (at line : ℕ) (s : Stop) → LinesFit line at t → Stops t at line s → RestFits t s
-rest-fits t at line Stop.End h b = tt
-rest-fits t at line (Stop.Call n end place) h b = omega (arith, b .after, b .inside, b .paced)
-rest-fits t at line (Stop.Outside o end place) h b = tt
+pub rest-fits : (t : List ℕ) (at line : ℕ) (s : Sequel) → LinesFit line at t → SequelBehind t at line s → RestFits t s
+rest-fits t at line Sequel.End h b = tt
+rest-fits t at line (Sequel.Call n end place) h b = omega (arith, b .after, b .inside, b .paced)
+rest-fits t at line (Sequel.Outside o end place) h b = tt
 
 -- how much of the text it may have
-pub restSize : List ℕ → Stop → ℕ
-restSize t Stop.End = 0
-restSize t (Stop.Call n end line) = suc (length t - end)
-restSize t (Stop.Outside o end line) = 0
+pub restSize : List ℕ → Sequel → ℕ
+restSize t Sequel.End = 0
+restSize t (Sequel.Call n end line) = suc (length t - end)
+restSize t (Sequel.Outside o end line) = 0
 
-pub rest-less : (t : List ℕ) (at line : ℕ) (s : Stop) → Stops t at line s → restSize t s < suc (length t - at)
+pub rest-less : (t : List ℕ) (at line : ℕ) (s : Sequel) → SequelBehind t at line s → restSize t s < suc (length t - at)
 unfolding restSize
-rest-less t at line Stop.End b = omega arith
-rest-less t at line (Stop.Call n end place) b = omega (arith, b .after, b .inside)
-rest-less t at line (Stop.Outside o end place) b = omega arith
+rest-less t at line Sequel.End b = omega arith
+rest-less t at line (Sequel.Call n end place) b = omega (arith, b .after, b .inside)
+rest-less t at line (Sequel.Outside o end place) b = omega arith
 
-pub size-call : (t : List ℕ) (n end line : ℕ) → restSize t (Stop.Call n end line) ≡ suc (length t - end)
+pub size-call : (t : List ℕ) (n end line : ℕ) → restSize t (Sequel.Call n end line) ≡ suc (length t - end)
 unfolding restSize
 size-call t n end line = refl
 
 -- ---- A stretch, and what follows it
 
-is-end : (s : Stop) → isEnd s ≡ true → s ≡ Stop.End
-is-end Stop.End e = refl
-is-end (Stop.Call n end line) e = absurd (true≢false (sym e))
-is-end (Stop.Outside o end line) e = absurd (true≢false (sym e))
+is-end : (s : Sequel) → isEnd s ≡ true → s ≡ Sequel.End
+is-end Sequel.End e = refl
+is-end (Sequel.Call n end line) e = absurd (true≢false (sym e))
+is-end (Sequel.Outside o end line) e = absurd (true≢false (sym e))
 
-then-no-hit : (out : Out (Made Progress)) → andThen out noHit ≡ out
-then-no-hit (refused number line) = refl
-then-no-hit (done m) = ap (λ (hs : List Hit). done (record { hits = hs; after = m .after })) (append-nil (m .hits))
+then-no-entry : (out : Out (Made Progress)) → andThen out noEntry ≡ out
+then-no-entry (refused number line) = refl
+then-no-entry (done m) = ap (λ (es : List Entry). done (record { entries = es; after = m .after })) (append-nil (m .entries))
 
 module _
     (c : Calls) (t : List ℕ) (at line : ℕ) {r : Stretch} {f : Frame} {before after : Lent} {g : Progress}
@@ -68,19 +69,19 @@ module _
   made = stretch judging f at line (lines (drop at t)) g
 
   -- nothing follows: it was all
-  pub lines-over : isEnd (r .stop) ≡ true → Ran hitsMade (f .job) (r .outcome .status) (r .outcome .progress) before after (g .hits) whole
+  pub lines-over : isEnd (r .sequel) ≡ true → Ran entriesMade (f .job) (r .outcome .status) (r .outcome .progress) before after (g .entries) whole
   lines-over e =
-      subst (Ran hitsMade (f .job) (r .outcome .status) (r .outcome .progress) before after (g .hits))
-      (sym (then-no-hit (made .made)) ∙ ap (λ (s : Stop). andThen (made .made) (rest judging c f t s)) (sym (is-end (r .stop) e) ∙ st .stopped) ∙ sym (lines-stretched judging c f t at line g))
+      subst (Ran entriesMade (f .job) (r .outcome .status) (r .outcome .progress) before after (g .entries))
+      (sym (then-no-entry (made .made)) ∙ ap (λ (s : Sequel). andThen (made .made) (rest judging c f t s)) (sym (is-end (r .sequel) e) ∙ st .same-sequel) ∙ sym (lines-stretched judging c f t at line g))
       (st .ran)
 
   -- something follows: whoever carries that out has carried out all
-  pub lines-left : isEnd (r .stop) ≡ false → Leads hitsMade (f .job) after (r .outcome .progress .hits) (rest judging c f t (r .stop) (r .outcome .progress)) before (g .hits) whole
+  pub lines-left : isEnd (r .sequel) ≡ false → Leads entriesMade (f .job) after (r .outcome .progress .entries) (rest judging c f t (r .sequel) (r .outcome .progress)) before (g .entries) whole
   lines-left e =
-      leads-as (ap (λ (s : Stop). rest judging c f t s (r .outcome .progress)) (sym (st .stopped)))
-      (leads-on (made .made) (rest judging c f t (made .stop))
-      (passed-as (stretch-passes judging f (lines (drop at t)) at line g (st .ran .same-status) (sym (ap isEnd (st .stopped)) ∙ e)) (st .ran))
+      leads-as (ap (λ (s : Sequel). rest judging c f t s (r .outcome .progress)) (sym (st .same-sequel)))
+      (leads-on (made .made) (rest judging c f t (made .sequel))
+      (passed-as (stretch-passes judging f (lines (drop at t)) at line g (st .ran .same-status) (sym (ap isEnd (st .same-sequel)) ∙ e)) (st .ran))
       (leads-as (lines-stretched judging c f t at line g) (leads-start refl)))
 
-  pub left-fits : LinesFit line at t → RestFits t (r .stop)
-  left-fits h = rest-fits t at line (r .stop) h (subst (Stops t at line) (sym (st .stopped)) (stretch-stops t judging f at line g))
+  pub left-fits : LinesFit line at t → RestFits t (r .sequel)
+  left-fits h = rest-fits t at line (r .sequel) h (subst (SequelBehind t at line) (sym (st .same-sequel)) (stretch-behind t judging f at line g))

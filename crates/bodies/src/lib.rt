@@ -7,7 +7,7 @@ use aries::state::Frame;
 use aries::state::Outcome;
 use aries::state::Progress;
 use aries::state::Status;
-use stretches::Stop;
+use stretches::Sequel;
 use stretches::look_ahead;
 use stretches::run_stretch;
 ghost use mathlib.Core.Path.{_≡_};
@@ -58,8 +58,8 @@ pub fn run_blocks(
     let line = from.line;
     let start = look_ahead(frame, body, at, line);
     let stretch = run_stretch(list, body, at, line, start, frame, progress);
-    let stop = stretch.stop;
-    if stop.is_end() {
+    let sequel = stretch.sequel;
+    if sequel.is_end() {
         return stretch.outcome;
     }
     run_rest(
@@ -67,7 +67,7 @@ pub fn run_blocks(
         list,
         text,
         body,
-        stop,
+        sequel,
         macros,
         frame,
         stretch.outcome.progress,
@@ -81,7 +81,7 @@ pub fn run_rest(
     list: &mut [i32],
     text: &[u8],
     body: &[u8],
-    from: Stop,
+    from: Sequel,
     macros: Macros,
     frame: Frame,
     progress: Progress,
@@ -90,16 +90,16 @@ pub fn run_rest(
     ensures { λ r. ⌜ Carried r frame (lent (now (list .entry))) (lent (now (list .exit))) progress (λ j. rest j (call j (bodiesOf (now (text .entry)) macros) depth) frame (now (body .entry)) from) ⌝ }
 {
     let mut now = progress;
-    let mut stop = from;
+    let mut sequel = from;
     loop {
-        match stop {
-            Stop::End => {
+        match sequel {
+            Sequel::End => {
                 return Outcome::passed(now);
             }
-            Stop::Outside(_, _, place) => {
+            Sequel::Outside(_, _, place) => {
                 return Outcome::refused(refusal::OUT_OF_PLACE, place, now);
             }
-            Stop::Call(number, end, place) => {
+            Sequel::Call(number, end, place) => {
                 let outcome = run_body(depth, list, text, number, place, macros, frame, now);
                 let ended = outcome.status;
                 if let Status::Refused(_, _) = ended {
@@ -110,7 +110,7 @@ pub fn run_rest(
                 let ran = stretch.outcome;
                 let status = ran.status;
                 now = stretch.outcome.progress;
-                stop = stretch.stop;
+                sequel = stretch.sequel;
                 if let Status::Refused(number, line) = status {
                     return Outcome::refused(number, line, now);
                 }
@@ -146,8 +146,8 @@ pub fn run_body(
     let number = first as u64;
     let start = look_ahead(frame, body, 0, number);
     let stretch = run_stretch(list, body, 0, number, start, frame, progress);
-    let stop = stretch.stop;
-    if stop.is_end() {
+    let sequel = stretch.sequel;
+    if sequel.is_end() {
         return stretch.outcome;
     }
     run_rest(
@@ -155,7 +155,7 @@ pub fn run_body(
         list,
         text,
         body,
-        stop,
+        sequel,
         macros,
         frame,
         stretch.outcome.progress,

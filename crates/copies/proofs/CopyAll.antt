@@ -16,13 +16,13 @@ use Rattle.aries.specs.declared.state.Outcome.{Outcome}
 use Rattle.aries.specs.declared.state.Progress.{Progress}
 use Rattle.aries.specs.declared.state.State.{State}
 use Rattle.aries.specs.Outcome.{Out, refused}
-use Rattle.aries.specs.Hits.{Made, noHit, andThen}
+use Rattle.aries.specs.Entries.{Made, noEntry, andThen}
 use Rattle.aries.specs.Judging.{Judging, limits, near}
 use Rattle.aries.specs.Layouts.{Part, copyCount, copyPlace, copyStart, copy, copyAll}
 use Rattle.aries.specs.Moves.{withState}
 use Rattle.aries.specs.Runs.{Lent, Carried}
 use Rattle.aries.specs.Setup.{frameAt}
-use Rattle.aries.proofs.Runs.{no-hit-then}
+use Rattle.aries.proofs.Runs.{no-entry-then}
 use Rattle.placing.specs.Places.{allNear, lastCopy}
 use Rattle.placing.proofs.AllNear.{all-near, some-far}
 use Rattle.aries.proofs.WidePoints.{at-passed, far-failed}
@@ -60,7 +60,7 @@ module _ (j : Judging) (part : Part) (f : Frame) (line : ℕ) (found : State) (p
       ap (λ (n : ℕ). copyAll j part f line found place n m g) e
       ∙ ap (λ (k : ℕ). andThen (copy j part f line found (place m) g) (copyAll j part f line found place (count - (m + 1)) k)) (sym (add-one m))
 
-  pub copies-end : count ≤ m → copyAll j part f line found place (count - m) m g ≡ noHit g
+  pub copies-end : count ≤ m → copyAll j part f line found place (count - m) m g ≡ noEntry g
   unfolding copyAll
   copies-end h =
       let e : count - m ≡ 0 = omega arith in
@@ -77,14 +77,14 @@ module _ (job : Job) (f : Frame) (line : ℕ) (found : State) (place : ℕ → P
   unfolding copyAll
   blanks-step n m g e =
       ap (λ (out : Out (Made Progress)). andThen out (blanks n (suc m))) (copy-near job blankPart f line found (place m) g e)
-      ∙ no-hit-then (withState g (copyStart found (place m))) (blanks n (suc m))
+      ∙ no-entry-then (withState g (copyStart found (place m))) (blanks n (suc m))
 
   -- all places are near: the state is that of the last copy
-  blanks-near : (n m last : ℕ) (g : Progress) → last ≡ m + n → ((i : ℕ) → i ≤ last → near (place i) ≡ true) → blanks (suc n) m g ≡ noHit (withState g (copyStart found (place last)))
+  blanks-near : (n m last : ℕ) (g : Progress) → last ≡ m + n → ((i : ℕ) → i ≤ last → near (place i) ≡ true) → blanks (suc n) m g ≡ noEntry (withState g (copyStart found (place last)))
   unfolding copyAll
   blanks-near zero m last g e all =
       let z : m ≡ last = omega arith in
-      blanks-step 0 m g (all m (omega arith)) ∙ ap (λ (k : ℕ). noHit (withState g (copyStart found (place k)))) z
+      blanks-step 0 m g (all m (omega arith)) ∙ ap (λ (k : ℕ). noEntry (withState g (copyStart found (place k)))) z
   blanks-near (suc n) m last g e all =
       blanks-step (suc n) m g (all m (omega arith)) ∙ blanks-near n (suc m) last (withState g (copyStart found (place m))) (omega arith) all
 
@@ -106,14 +106,14 @@ module _ (job : Job) (f : Frame) (line : ℕ) (found : State) (place : ℕ → P
               absurd (subst T y tt)
 
 module _ (f : Frame) (line : ℕ) (l : Layout) (c : Copies) (g : Progress) where
-  pub blank-passed : {p : Point} → lastCopy (f .origin) l c ≡ At p → allCopies (limits (f .job)) blankPart f line l c g ≡ noHit (withState g (copyStart (g .state) p))
+  pub blank-passed : {p : Point} → lastCopy (f .origin) l c ≡ At p → allCopies (limits (f .job)) blankPart f line l c g ≡ noEntry (withState g (copyStart (g .state) p))
   blank-passed e =
       let last = copyCount l - 1 in
       let q = at-passed (allNear (f .origin) l) (copyPlace (f .origin) l c last) e in
       let n : copyCount l ≡ suc last = omega arith in
       ap (λ (k : ℕ). copyAll (limits (f .job)) blankPart f line (g .state) (copyPlace (f .origin) l c) k 0 g) n
       ∙ blanks-near (f .job) f line (g .state) (copyPlace (f .origin) l c) last 0 last g (omega arith) (λ i h. all-near (f .origin) l c i (omega arith) (q .0))
-      ∙ ap (λ (p : Point). noHit (withState g (copyStart (g .state) p))) (sym (q .1))
+      ∙ ap (λ (p : Point). noEntry (withState g (copyStart (g .state) p))) (sym (q .1))
 
   pub blank-refused : lastCopy (f .origin) l c ≡ TooFar → allCopies (limits (f .job)) blankPart f line l c g ≡ refused 15 line
   blank-refused e =

@@ -11,14 +11,14 @@ use Rattle.aries.specs.declared.setup.Setup.{Setup}
 use Rattle.aries.specs.declared.setup.Sheet.the-variants.{Plain, LaidOut}
 use Rattle.aries.specs.declared.state.Progress.{Progress}
 use Rattle.aries.specs.Outcome.{refused}
-use Rattle.aries.specs.Hits.{andThen}
+use Rattle.aries.specs.Entries.{andThen}
 use Rattle.aries.specs.Judging.{Judging}
 use Rattle.aries.specs.Layouts.{partOf, copyPart}
 use Rattle.aries.specs.Macros.{Bodies, foundIn, part, bodiesOf, call, mostCalls, runBody}
 use Rattle.aries.specs.Setup.{ordinaryFrame}
-use Rattle.aries.proofs.Runs.{no-hit-then}
+use Rattle.aries.proofs.Runs.{no-entry-then}
 use Rattle.stretches.specs.declared.Ahead.the-variants as Ahead
-use Rattle.stretches.specs.declared.Stop.the-variants as Stop
+use Rattle.stretches.specs.declared.Sequel.the-variants as Sequel
 use Rattle.stretches.specs.Lookahead.{ahead}
 use Rattle.stretches.specs.Stretches.{Stretched}
 use Rattle.stretches.proofs.Lookahead.{ahead-nothing}
@@ -54,5 +54,5 @@ part-blank r j bodies first body h =
     fun-ext
     (λ f. fun-ext
     (λ g. lines-stretched j calls f body 0 first g
-    ∙ ap (λ (s : Stretched). andThen (s .made) (rest j calls f body (s .stop))) (stretch-skip j f body 0 first g ∙ stretch-end j f body _ _ g (ahead-nothing r body 0 first h))
-    ∙ no-hit-then g (rest j calls f body Stop.End)))
+    ∙ ap (λ (s : Stretched). andThen (s .made) (rest j calls f body (s .sequel))) (stretch-skip j f body 0 first g ∙ stretch-end j f body _ _ g (ahead-nothing r body 0 first h))
+    ∙ no-entry-then g (rest j calls f body Sequel.End)))

@@ -6,7 +6,7 @@ use Rattle.aries.specs.declared.block.Layout.{Layout}
 use Rattle.aries.specs.declared.state.Frame.{Frame}
 use Rattle.aries.specs.declared.state.Progress.{Progress}
 use Rattle.aries.specs.Outcome.{Out}
-use Rattle.aries.specs.Hits.{Made, noHit}
+use Rattle.aries.specs.Entries.{Made, noEntry}
 use Rattle.aries.specs.Judging.{Judging}
 use Rattle.aries.specs.Macros.{Body}
 use Rattle.aries.specs.Layouts.{Part, copyCount, copyPlace, copyAll}
@@ -17,7 +17,7 @@ bodyOf first bytes = record { line = first; bytes = bytes }
 
 -- a part without a block
 abbrev pub blankPart : Part
-blankPart f g = noHit g
+blankPart f g = noEntry g
 
 -- all copies of a part, from the state that is found; the layout's lower left place is at the frame's origin
 abbrev pub allCopies : Judging → Part → Frame → ℕ → Layout → Copies → Progress → Out (Made Progress)

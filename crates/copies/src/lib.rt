@@ -54,7 +54,7 @@ fn copy_blank(
     Outcome::passed(progress.with_state(copy_start(found, point)))
 }
 
-// One copy, after so many blocks and hits: its place is judged, and then the part is carried out there with the state found.
+// One copy, after so many blocks and entries: its place is judged, and then the part is carried out there with the state found.
 // The macro store is handed on only where a stretch of direct blocks is not all.
 fn copy_at(
     list: &mut [i32],
@@ -68,10 +68,10 @@ fn copy_at(
     found: State,
     place: WidePoint,
     blocks: u32,
-    hits: usize,
+    entries: usize,
 ) -> Outcome
     requires { ⌜ (LinesFit first 0 (now body)) × (start ≡ ahead (readerOf frame) (now body) 0 first) ⌝ }
-    ensures { λ r. ⌜ Carried r frame (lent (now (list .entry))) (lent (now (list .exit))) (record { state = found; blocks = blocks; hits = hits }) (λ j. copy j (partOf j (bodiesOf (now (text .entry)) macros) (bodyOf first (now (body .entry)))) frame line found (pointOf place)) ⌝ }
+    ensures { λ r. ⌜ Carried r frame (lent (now (list .entry))) (lent (now (list .exit))) (record { state = found; blocks = blocks; entries = entries }) (λ j. copy j (partOf j (bodiesOf (now (text .entry)) macros) (bodyOf first (now (body .entry)))) frame line found (pointOf place)) ⌝ }
 {
     let located = place.located();
     let Located::At(point) = located else {
@@ -81,7 +81,7 @@ fn copy_at(
             Progress {
                 state: found,
                 blocks,
-                hits,
+                entries,
             },
         );
     };
@@ -89,11 +89,11 @@ fn copy_at(
     let begun = Progress {
         state: copy_start(found, point),
         blocks,
-        hits,
+        entries,
     };
     let stretch = run_stretch(list, body, 0, first, start, here, begun);
-    let stop = stretch.stop;
-    if stop.is_end() {
+    let sequel = stretch.sequel;
+    if sequel.is_end() {
         return stretch.outcome;
     }
     bodies::run_rest(
@@ -101,7 +101,7 @@ fn copy_at(
         list,
         text,
         body,
-        stop,
+        sequel,
         macros,
         here,
         stretch.outcome.progress,
@@ -138,7 +138,7 @@ fn copy_next(
         saved,
         place,
         before.blocks,
-        before.hits,
+        before.entries,
     )
 }
 

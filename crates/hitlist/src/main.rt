@@ -1,4 +1,4 @@
-// Reads a program text from a file or from standard input, and prints the listing of its hits, or its refusal.
+// Reads a program text from a file or from standard input, and prints the listing of its entries, or its refusal.
 mod input; // reading a text
 mod output; // listings
 
@@ -10,7 +10,7 @@ use libc::STDIN_FILENO;
 // What is read: one byte more than a text may have is enough to refuse it.
 const MOST_READ: usize = 60_001;
 
-// The numbers of a list for 4,096 hits.
+// The numbers of a list for 4,096 entries.
 const NUMBERS: usize = 16_384;
 
 // The decimal point setting: lengths and angles without a point count hundredths.
@@ -34,7 +34,7 @@ fn tell_usage() {
     io::write_all(STDERR_FILENO, b"usage: hitlist [PLATE]\n");
     io::write_all(
         STDERR_FILENO,
-        b"Prints the hits of the punch code in the file PLATE, or in standard input.\n",
+        b"Prints the entries of the punch code in the file PLATE, or in standard input.\n",
     );
 }
 

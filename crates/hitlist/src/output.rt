@@ -8,7 +8,7 @@ ghost use lib.ListN.{length};
 ghost use Rattle.aries.specs.Program.{countOf};
 ghost use Rattle.printing.specs.Listing.{longestLine};
 
-// The longest listing: 64 bytes for the head, and for each of 4,096 hits.
+// The longest listing: 64 bytes for the head, and for each of 4,096 entries.
 const LISTING: usize = 262_208;
 
 // Writes once, and again where a signal interrupts that. Answers how many of the bytes are written; none where it fails.
@@ -53,7 +53,7 @@ fn print_through(out: &mut [u8], list: &[i32], answer: Answer)
     }
 }
 
-// Prints the listing of up to 4,096 hits, or of a refusal.
+// Prints the listing of up to 4,096 entries, or of a refusal.
 pub fn print_listing(list: &[i32], answer: Answer)
     requires { ⌜ countOf answer ≤ 4096 ⌝ }
 {

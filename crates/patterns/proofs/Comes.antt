@@ -14,21 +14,21 @@ use Rattle.aries.specs.declared.state.Status.the-variants.{Refused}
 use Rattle.patterns.specs.declared.series.Tooling.{Tooling}
 use Rattle.patterns.specs.declared.series.Reached.{Reached}
 use Rattle.aries.specs.Outcome.{Out, done, refused}
-use Rattle.aries.specs.Hits.{Made, andThen, mapAfter}
+use Rattle.aries.specs.Entries.{Made, andThen, mapAfter}
 use Rattle.aries.specs.Judging.{limits}
 use Rattle.aries.specs.Moves.{_⊕_, punch}
 use Rattle.aries.specs.Patterns.{hitOffset, hitCount, punches, ending}
-use Rattle.aries.specs.Runs.{Lent, hitsMade, Ran}
+use Rattle.aries.specs.Runs.{Lent, entriesMade, Ran}
 use Rattle.aries.proofs.Runs.{refused-map, ran-map, Leads, leads-start, leads-as, leads-on, leads-out, leads-end}
 use Rattle.patterns.specs.Series.{come, statusAt, Comes, series}
 
--- the end of a pattern makes no hit
-ending-hits : (p : Pattern) (start : Point) (g : Progress) → ending p start g .hits ≡ g .hits
-ending-hits (Line pitch angle count) start g = refl
-ending-hits (Arc radius angle step count) start g = refl
-ending-hits (Circle radius angle clockwise count) start g = refl
-ending-hits (Grid vertical pitch steps) start g = refl
-ending-hits (Shear angle lengths) start g = refl
+-- the end of a pattern makes no entry
+ending-entries : (p : Pattern) (start : Point) (g : Progress) → ending p start g .entries ≡ g .entries
+ending-entries (Line pitch angle count) start g = refl
+ending-entries (Arc radius angle step count) start g = refl
+ending-entries (Circle radius angle clockwise count) start g = refl
+ending-entries (Grid vertical pitch steps) start g = refl
+ending-entries (Shear angle lengths) start g = refl
 
 -- a number that is not 0 is a refusal's
 pub status-refused : (number line : ℕ) → 0 < number → statusAt number line ≡ Refused number line
@@ -41,17 +41,17 @@ pub record Series : Type 0 where
   pub tooling : Tooling
   pub pattern : Pattern
   pub start : Point
-  pub hits : ℕ
+  pub entries : ℕ
   pub before : Lent
   pub count : ℕ
 
 abbrev pub seriesOf : Frame → Tooling → Pattern → Point → ℕ → Lent → ℕ → Series
-seriesOf f tooling p start hits before count =
-    record { frame = f; tooling = tooling; pattern = p; start = start; hits = hits; before = before; count = count }
+seriesOf f tooling p start entries before count =
+    record { frame = f; tooling = tooling; pattern = p; start = start; entries = entries; before = before; count = count }
 
 -- what it comes to
 abbrev pub Ends : Series → Reached → Lent → Type 0
-Ends s r after = Comes r (s .frame) (s .tooling) (s .start) (s .hits) (s .before) after (series (s .frame) (s .pattern) (s .start))
+Ends s r after = Comes r (s .frame) (s .tooling) (s .start) (s .entries) (s .before) after (series (s .frame) (s .pattern) (s .start))
 
 module _ (s : Series) where
   -- so many hits from hit k on, at a line
@@ -59,10 +59,10 @@ module _ (s : Series) where
   left line n k g = punches (limits (s .frame .job)) (s .frame) line (s .pattern) (s .start) n k g
 
   abbrev all : ℕ → Progress → Out (Made Progress)
-  all line g = left line (s .count) 0 (come g (s .tooling) (s .start) (s .hits))
+  all line g = left line (s .count) 0 (come g (s .tooling) (s .start) (s .entries))
 
   abbrev reached : Reached → Progress → Progress
-  reached made g = come g (s .tooling) (made .current) (made .hits)
+  reached made g = come g (s .tooling) (made .current) (made .entries)
 
   abbrev hitAt : Point → ℕ → Progress → Out (Made Progress)
   hitAt place line g = punch (limits (s .frame .job)) (s .frame) line place g
@@ -72,15 +72,15 @@ module _ (s : Series) where
     pub inside : k ≤ s .count
     pub passed : made .number ≡ 0
     pub leads : (line : ℕ) (g : Progress)
-        → Leads hitsMade (s .frame .job) now (made .hits) (left line (s .count - k) k (reached made g)) (s .before) (s .hits) (all line g)
+        → Leads entriesMade (s .frame .job) now (made .entries) (left line (s .count - k) k (reached made g)) (s .before) (s .entries) (all line g)
 
   -- at the start
-  pub under-start : UnderWay (s .before) (record { number = 0; current = s .start; hits = s .hits }) 0
+  pub under-start : UnderWay (s .before) (record { number = 0; current = s .start; entries = s .entries }) 0
   under-start =
       record {
         inside = omega arith;
         passed = refl;
-        leads = λ line g. leads-start (ap (λ (n : ℕ). left line n 0 (come g (s .tooling) (s .start) (s .hits))) (sub-zero (s .count)));
+        leads = λ line g. leads-start (ap (λ (n : ℕ). left line n 0 (come g (s .tooling) (s .start) (s .entries))) (sub-zero (s .count)));
       }
 
   -- hit k, and then what is left
@@ -93,7 +93,7 @@ module _ (s : Series) where
       rw (e, is) (ap (λ (n : ℕ). andThen (hitAt (s .start ⊕ hitOffset (s .pattern) k) line g) (left line (s .count - (k + 1)) n)) f)
 
   module _ {now next : Lent} {made : Reached} {k : ℕ} {place : Point} (under : UnderWay now made k) (more : k < s .count) (is : place ≡ s .start ⊕ hitOffset (s .pattern) k)
-      (r : Reached) (comes : Comes r (s .frame) (s .tooling) (made .current) (made .hits) now next (hitAt place)) where
+      (r : Reached) (comes : Comes r (s .frame) (s .tooling) (made .current) (made .entries) now next (hitAt place)) where
     -- a hit that is made
     pub under-next : r .number ≡ 0 → UnderWay next r (k + 1)
     under-next none =
@@ -120,4 +120,4 @@ module _ (s : Series) where
   under-end {made = made} {k} r under past same none ends line g =
       let e : s .count - k ≡ 0 = omega arith in
       rw (none, ends g, ← same)
-      (ran-map (ending (s .pattern) (s .start)) (ending-hits (s .pattern) (s .start)) (all line g) (leads-end (rw e at (under .leads line g))))
+      (ran-map (ending (s .pattern) (s .start)) (ending-entries (s .pattern) (s .start)) (all line g) (leads-end (rw e at (under .leads line g))))

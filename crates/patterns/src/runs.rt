@@ -47,7 +47,7 @@ fn carry_out(
         tool: state.tool,
         nibble: state.nibble,
     };
-    let made = series::punch_series(list, frame, tooling, start, progress.hits, pattern);
+    let made = series::punch_series(list, frame, tooling, start, progress.entries, pattern);
     let end = made.current;
     let dropped = state.dropping();
     Outcome {
@@ -55,7 +55,7 @@ fn carry_out(
         progress: Progress {
             state: dropped.moved_to(end),
             blocks: progress.blocks,
-            hits: made.hits,
+            entries: made.entries,
         },
     }
 }

@@ -28,11 +28,11 @@ pub struct Tooling {
     pub nibble: bool,
 }
 
-// How far a series of hits has come: the number of the refusal that ended it, or 0, the last point and the hits made.
+// How far a series of hits has come: the number of the refusal that ended it, or 0, the last point and the count of entries.
 pub struct Reached {
     pub number: u8,
     pub current: Point,
-    pub hits: usize,
+    pub entries: usize,
 }
 
 // One hit more, or its refusal.
@@ -43,21 +43,21 @@ fn punch_next(
     place: WidePoint,
     from: Reached,
 ) -> Reached
-    ensures { λ r. ⌜ Comes r frame tooling (from .current) (from .hits) (lent (now (list .entry))) (lent (now (list .exit))) (λ line. punch (limits (frame .job)) frame line (pointOf place)) ⌝ }
+    ensures { λ r. ⌜ Comes r frame tooling (from .current) (from .entries) (lent (now (list .entry))) (lent (now (list .exit))) (λ line. punch (limits (frame .job)) frame line (pointOf place)) ⌝ }
 {
-    let hits = from.hits;
+    let entries = from.entries;
     let current = from.current;
-    let judged = hits::hit(list, frame, place, tooling.tool, tooling.nibble, hits);
+    let judged = hits::hit(list, frame, place, tooling.tool, tooling.nibble, entries);
     match judged {
         Judged::Refused(number) => Reached {
             number,
             current,
-            hits,
+            entries,
         },
         Judged::Made(point) => Reached {
             number: 0,
             current: point,
-            hits: hits + 1,
+            entries: entries + 1,
         },
     }
 }
@@ -68,19 +68,19 @@ fn punch_line(
     frame: Frame,
     tooling: Tooling,
     start: Point,
-    hits: usize,
+    entries: usize,
     pitch: i32,
     angle: i32,
     count: u16,
 ) -> Reached
     requires { ⌜ isNear (pos count *ℤ pitch) ≡ true ⌝ }
-    ensures { λ r. ⌜ Comes r frame tooling start hits (lent (now (list .entry))) (lent (now (list .exit))) (series frame (Line pitch angle count) start) ⌝ }
+    ensures { λ r. ⌜ Comes r frame tooling start entries (lent (now (list .entry))) (lent (now (list .exit))) (series frame (Line pitch angle count) start) ⌝ }
 {
     let direction = sine::direction_at(angle);
     let mut made = Reached {
         number: 0,
         current: start,
-        hits,
+        entries,
     };
     let mut k = 0;
     while k < count {
@@ -100,13 +100,13 @@ fn punch_arc(
     frame: Frame,
     tooling: Tooling,
     start: Point,
-    hits: usize,
+    entries: usize,
     radius: i32,
     angle: i32,
     step: i32,
     count: u16,
 ) -> Reached
-    ensures { λ r. ⌜ Comes r frame tooling start hits (lent (now (list .entry))) (lent (now (list .exit))) (series frame (Arc radius angle step count) start) ⌝ }
+    ensures { λ r. ⌜ Comes r frame tooling start entries (lent (now (list .entry))) (lent (now (list .exit))) (series frame (Arc radius angle step count) start) ⌝ }
 {
     let degrees = sine::degree_sines();
     let sines = sine::hundredth_sines();
@@ -114,7 +114,7 @@ fn punch_arc(
     let mut made = Reached {
         number: 0,
         current: start,
-        hits,
+        entries,
     };
     let mut k = 0;
     while k < count {
@@ -135,13 +135,13 @@ fn punch_circle(
     frame: Frame,
     tooling: Tooling,
     start: Point,
-    hits: usize,
+    entries: usize,
     radius: i32,
     angle: i32,
     clockwise: bool,
     count: u16,
 ) -> Reached
-    ensures { λ r. ⌜ Comes r frame tooling start hits (lent (now (list .entry))) (lent (now (list .exit))) (series frame (Circle radius angle clockwise count) start) ⌝ }
+    ensures { λ r. ⌜ Comes r frame tooling start entries (lent (now (list .entry))) (lent (now (list .exit))) (series frame (Circle radius angle clockwise count) start) ⌝ }
 {
     let degrees = sine::degree_sines();
     let sines = sine::hundredth_sines();
@@ -149,7 +149,7 @@ fn punch_circle(
     let mut made = Reached {
         number: 0,
         current: start,
-        hits,
+        entries,
     };
     let mut k = 0;
     while k < count {
@@ -171,19 +171,19 @@ fn punch_grid(
     frame: Frame,
     tooling: Tooling,
     start: Point,
-    hits: usize,
+    entries: usize,
     vertical: bool,
     pitch: Point,
     steps: Steps,
 ) -> Reached
-    ensures { λ r. ⌜ Comes r frame tooling start hits (lent (now (list .entry))) (lent (now (list .exit))) (series frame (Grid vertical pitch steps) start) ⌝ }
+    ensures { λ r. ⌜ Comes r frame tooling start entries (lent (now (list .entry))) (lent (now (list .exit))) (series frame (Grid vertical pitch steps) start) ⌝ }
 {
     let count = sizes::grid_hits(steps);
     let last = sizes::lane_end(vertical, steps);
     let mut made = Reached {
         number: 0,
         current: start,
-        hits,
+        entries,
     };
     let mut cursor = Cursor::first();
     let mut k = 0;
@@ -205,19 +205,19 @@ fn punch_shear(
     frame: Frame,
     tooling: Tooling,
     start: Point,
-    hits: usize,
+    entries: usize,
     angle: u16,
     shear: Shear,
 ) -> Reached
     requires { ⌜ isFit shear ≡ true ⌝ }
-    ensures { λ r. ⌜ Comes r frame tooling start hits (lent (now (list .entry))) (lent (now (list .exit))) (series frame (pattern.Shear angle shear) start) ⌝ }
+    ensures { λ r. ⌜ Comes r frame tooling start entries (lent (now (list .entry))) (lent (now (list .exit))) (series frame (pattern.Shear angle shear) start) ⌝ }
 {
     let cut = shears::places::prepare(angle, shear);
     let count = cut.hits;
     let mut made = Reached {
         number: 0,
         current: start,
-        hits,
+        entries,
     };
     let mut k = 0;
     while k < count {
@@ -231,7 +231,7 @@ fn punch_shear(
     Reached {
         number: 0,
         current: start,
-        hits: made.hits,
+        entries: made.entries,
     }
 }
 
@@ -241,19 +241,19 @@ pub fn punch_series(
     frame: Frame,
     tooling: Tooling,
     start: Point,
-    hits: usize,
+    entries: usize,
     pattern: Pattern,
 ) -> Reached
     requires { ⌜ reachIsNear pattern ≡ true ⌝ }
     requires { ⌜ shearIsFit pattern ≡ true ⌝ }
-    ensures { λ r. ⌜ Comes r frame tooling start hits (lent (now (list .entry))) (lent (now (list .exit))) (series frame pattern start) ⌝ }
+    ensures { λ r. ⌜ Comes r frame tooling start entries (lent (now (list .entry))) (lent (now (list .exit))) (series frame pattern start) ⌝ }
 {
     match pattern {
         Pattern::Line {
             pitch,
             angle,
             count,
-        } => punch_line(list, frame, tooling, start, hits, pitch, angle, count),
+        } => punch_line(list, frame, tooling, start, entries, pitch, angle, count),
         Pattern::Arc {
             radius,
             angle,
@@ -264,7 +264,7 @@ pub fn punch_series(
             frame,
             tooling,
             start,
-            hits,
+            entries,
             radius,
             angle,
             step,
@@ -280,7 +280,7 @@ pub fn punch_series(
             frame,
             tooling,
             start,
-            hits,
+            entries,
             radius,
             angle,
             clockwise,
@@ -290,9 +290,9 @@ pub fn punch_series(
             vertical,
             pitch,
             steps,
-        } => punch_grid(list, frame, tooling, start, hits, vertical, pitch, steps),
+        } => punch_grid(list, frame, tooling, start, entries, vertical, pitch, steps),
         Pattern::Shear { angle, lengths } => {
-            punch_shear(list, frame, tooling, start, hits, angle, lengths)
+            punch_shear(list, frame, tooling, start, entries, angle, lengths)
         }
     }
 }

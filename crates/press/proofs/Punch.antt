@@ -14,11 +14,15 @@ use Rattle.press.specs.declared.hits.Judged.the-variants.{Made, Refused}
 use Rattle.aries.specs.Outcome.{Out, done, refused, _>>=_, need}
 use Rattle.aries.specs.Judging.{limits, near}
 use Rattle.aries.specs.Machine.{inRange}
-use Rattle.aries.specs.Hits as Hits
-use Rattle.aries.specs.Moves.{hitting, punch}
-use Rattle.aries.specs.Runs.{Lent, over, hitsMade, Ran}
+use Rattle.aries.specs.Entries as Entries
+use Rattle.aries.specs.Moves.{movedTo, withState, entered, hitOf, punch}
+use Rattle.aries.specs.Runs.{Lent, over, entriesMade, Ran}
 use Rattle.aries.proofs.Runs.{ran-refused, ran-made}
 use Rattle.press.specs.Hits.{judgedHit, listAfter}
+
+-- a hit at p, which becomes the current point
+abbrev hitting : Progress → Point → Entries.Made Progress
+hitting g p = entered (hitOf (g .state) p) (withState g (movedTo (g .state) p))
 
 -- ---- What is judged of a hit
 
@@ -27,10 +31,10 @@ abbrev chosen : Point → Bool → Bool → Bool → Bool → Judged
 chosen p t n c r = cond t (cond n (cond c (cond r (Made p) (Refused 17)) (Refused 16)) (Refused 15)) (Refused 14)
 
 -- a hit that is made has a place in the list
-pub hit-fits : (f : Frame) (p : Point) (tool hits : ℕ) (q : Point) → Made q ≡ judgedHit f p tool hits → hits < f .job .places
+pub hit-fits : (f : Frame) (p : Point) (tool entries : ℕ) (q : Point) → Made q ≡ judgedHit f p tool entries → entries < f .job .places
 unfolding judgedHit
-hit-fits f p tool hits q e =
-    ltb-true hits (f .job .places) (go (ltb 0 tool) (near p) (inRange f p) (ltb hits (f .job .places)) e)
+hit-fits f p tool entries q e =
+    ltb-true entries (f .job .places) (go (ltb 0 tool) (near p) (inRange f p) (ltb entries (f .job .places)) e)
   where
     go : (t n c r : Bool) → Made q ≡ chosen p t n c r → r ≡ true
     go true true true true h = refl
@@ -40,9 +44,9 @@ hit-fits f p tool hits q e =
     go false n c r h = let z : _≡_ {A = ℕ} 0 1 = cc in absurd (omega arith)
 
 -- and any other has a refusal's number
-pub refusal-positive : (f : Frame) (p : Point) (tool hits number : ℕ) → Refused number ≡ judgedHit f p tool hits → 0 < number
+pub refusal-positive : (f : Frame) (p : Point) (tool entries number : ℕ) → Refused number ≡ judgedHit f p tool entries → 0 < number
 unfolding judgedHit
-refusal-positive f p tool hits number e = go (ltb 0 tool) (near p) (inRange f p) (ltb hits (f .job .places)) e
+refusal-positive f p tool entries number e = go (ltb 0 tool) (near p) (inRange f p) (ltb entries (f .job .places)) e
   where
     go : (t n c r : Bool) → Refused number ≡ chosen p t n c r → 0 < number
     go true true true true h = let z : _≡_ {A = ℕ} 0 1 = cc in omega arith
@@ -53,17 +57,17 @@ refusal-positive f p tool hits number e = go (ltb 0 tool) (near p) (inRange f p)
 
 -- ---- `punch` by what is judged
 
-abbrev byJudged : Judged → ℕ → Progress → Out (Hits.Made Progress)
+abbrev byJudged : Judged → ℕ → Progress → Out (Entries.Made Progress)
 byJudged (Made p) line g = done (hitting g p)
 byJudged (Refused number) line g = refused number line
 
 punch-by-judged : (f : Frame) (line : ℕ) (p : Point) (g : Progress)
-    → punch (limits (f .job)) f line p g ≡ byJudged (judgedHit f p (g .state .tool) (g .hits)) line g
+    → punch (limits (f .job)) f line p g ≡ byJudged (judgedHit f p (g .state .tool) (g .entries)) line g
 unfolding punch judgedHit
 punch-by-judged f line p g =
-    go (ltb 0 (g .state .tool)) (near p) (inRange f p) (ltb (g .hits) (f .job .places))
+    go (ltb 0 (g .state .tool)) (near p) (inRange f p) (ltb (g .entries) (f .job .places))
   where
-    judging : Bool → Bool → Bool → Bool → Out (Hits.Made Progress)
+    judging : Bool → Bool → Bool → Bool → Out (Entries.Made Progress)
     judging t n c r = do
       _ ← need t 14 line
       _ ← need n 15 line
@@ -82,15 +86,15 @@ punch-by-judged f line p g =
 
 module _ (f : Frame) (line : ℕ) (p : Point) (g : Progress) {before after : Lent} where
   -- a hit that is made, where the list has it
-  pub punch-made : (q : Point) → Made q ≡ judgedHit f p (g .state .tool) (g .hits)
-      → after ≡ listAfter (Made q) before (g .hits) (g .state .tool) (g .state .nibble)
-      → Ran hitsMade (f .job) Status.Passed (hitting g q .after) before after (g .hits) (punch (limits (f .job)) f line p g)
+  pub punch-made : (q : Point) → Made q ≡ judgedHit f p (g .state .tool) (g .entries)
+      → after ≡ listAfter (Made q) before (g .entries) (g .state .tool) (g .state .nibble)
+      → Ran entriesMade (f .job) Status.Passed (hitting g q .after) before after (g .entries) (punch (limits (f .job)) f line p g)
   unfolding over
   punch-made q is written =
       rw (punch-by-judged f line p g ∙ ap (λ (j : Judged). byJudged j line g) (sym is))
-      (ran-made {m = hitting g q} written refl (λ _. let h = hit-fits f p (g .state .tool) (g .hits) q is in omega arith))
+      (ran-made {m = hitting g q} written refl (λ _. let h = hit-fits f p (g .state .tool) (g .entries) q is in omega arith))
 
   -- and one that is refused, whatever is left
-  pub punch-refused : {left : Progress} (number : ℕ) → Refused number ≡ judgedHit f p (g .state .tool) (g .hits)
-      → Ran hitsMade (f .job) (Status.Refused number line) left before after (g .hits) (punch (limits (f .job)) f line p g)
+  pub punch-refused : {left : Progress} (number : ℕ) → Refused number ≡ judgedHit f p (g .state .tool) (g .entries)
+      → Ran entriesMade (f .job) (Status.Refused number line) left before after (g .entries) (punch (limits (f .job)) f line p g)
   punch-refused number is = rw (punch-by-judged f line p g ∙ ap (λ (j : Judged). byJudged j line g) (sym is)) ran-refused

@@ -1,4 +1,6 @@
-use aries::job;
+use crate::entries::enter;
+use aries::entry::Entry;
+use aries::entry::Hit;
 use aries::point::Located;
 use aries::point::Point;
 use aries::point::WidePoint;
@@ -8,49 +10,16 @@ use aries::state::Outcome;
 use aries::state::Progress;
 ghost use mathlib.Core.Path.{_≡_};
 ghost use mathlib.Core.Bool.{cond};
-ghost use lib.IntN.{pos};
-ghost use Rattle.aries.specs.Hits.{modeNumber};
 ghost use Rattle.aries.specs.Judging.{near};
 ghost use Rattle.aries.specs.Moves.{punch};
 ghost use Rattle.aries.specs.WidePoints.{pointOf};
-ghost use Rattle.aries.specs.Runs.{lent, put, Carried};
+ghost use Rattle.aries.specs.Runs.{lent, Carried};
 ghost use Rattle.press.specs.Hits.{judgedHit, listAfter};
 
 // What is judged of a hit: it is made at a point, or refused by a number.
 pub enum Judged {
     Made(Point),
     Refused(u8),
-}
-
-// The number of a mode: 1 for N, 0 for P.
-fn mode_number(nibble: bool) -> i32
-    ensures { λ r. ⌜ r ≡ modeNumber nibble ⌝ }
-{
-    if nibble { 1 } else { 0 }
-}
-
-// The number of a tool.
-fn tool_number(tool: u8) -> i32
-    ensures { λ r. ⌜ r ≡ pos tool ⌝ }
-{
-    signed::of_count(tool as u16)
-}
-
-// Writes a hit at place k of the list, if the list has that place.
-fn put_hit(list: &mut [i32], k: usize, p: Point, tool: u8, nibble: bool)
-    ensures { λ r. ⌜ lent (now (list .exit)) ≡ put (lent (now (list .entry))) k (record { place = p; tool = tool; nibble = nibble }) ⌝ }
-{
-    let x = p.x;
-    let y = p.y;
-    let number = tool_number(tool);
-    let mode = mode_number(nibble);
-    if k < list.len() / job::NUMBERS {
-        let at = job::NUMBERS * k;
-        list[at] = x;
-        list[at + 1] = y;
-        list[at + 2] = number;
-        list[at + 3] = mode;
-    }
 }
 
 // The refusal of a place that is out of the punching range: 15 where it is too far away, else 16.
@@ -64,7 +33,7 @@ fn out_of_range(place: WidePoint) -> u8
     }
 }
 
-// Makes a hit with a tool in a mode, after so many hits, or refuses it. The range is judged first: it lies within the
+// Makes a hit with a tool in a mode, after so many entries, or refuses it. The range is judged first: it lies within the
 // limit of 15, so that 15 and 16 are told apart only where it is left.
 pub fn hit(
     list: &mut [i32],
@@ -72,11 +41,11 @@ pub fn hit(
     place: WidePoint,
     tool: u8,
     nibble: bool,
-    hits: usize,
+    entries: usize,
 ) -> Judged
-    ensures { λ r. ⌜ (r ≡ judgedHit frame (pointOf place) tool hits) × (lent (now (list .exit)) ≡ listAfter r (lent (now (list .entry))) hits tool nibble) ⌝ }
+    ensures { λ r. ⌜ (r ≡ judgedHit frame (pointOf place) tool entries) × (lent (now (list .exit)) ≡ listAfter r (lent (now (list .entry))) entries tool nibble) ⌝ }
 {
-    let places = frame.job.places;
+    let job = frame.job;
     if tool == 0 {
         return Judged::Refused(refusal::NO_TOOL);
     }
@@ -87,10 +56,14 @@ pub fn hit(
     match located {
         Located::TooFar => Judged::Refused(refusal::TOO_FAR),
         Located::At(point) => {
-            if places <= hits {
+            let made = Hit {
+                place: point,
+                tool,
+                nibble,
+            };
+            if !enter(list, job, Entry::Hit(made), entries) {
                 return Judged::Refused(refusal::LIST_FULL);
             }
-            put_hit(list, hits, point, tool, nibble);
             Judged::Made(point)
         }
     }
@@ -107,14 +80,14 @@ pub fn punch(
     ensures { λ r. ⌜ Carried r frame (lent (now (list .entry))) (lent (now (list .exit))) progress (λ j. punch j frame line (pointOf place)) ⌝ }
 {
     let state = progress.state;
-    let hits = progress.hits;
-    let judged = hit(list, frame, place, state.tool, state.nibble, hits);
+    let entries = progress.entries;
+    let judged = hit(list, frame, place, state.tool, state.nibble, entries);
     match judged {
         Judged::Refused(number) => Outcome::refused(number, line, progress),
         Judged::Made(point) => Outcome::passed(Progress {
             state: state.moved_to(point),
             blocks: progress.blocks,
-            hits: hits + 1,
+            entries: entries + 1,
         }),
     }
 }

@@ -66,10 +66,10 @@ pub left-all : (bytes before : List ℕ) (end : ℕ) → Left bytes bytes end be
 left-all bytes before end = record { placed = refl; earlier = omega arith; written = refl; kept = refl }
 
 -- what has been kept before a piece is kept before the next
-no-hit-kept :
+kept-through :
     (before out after : List ℕ) (at start : ℕ) → start ≤ at → take at out ≡ take at before → take start after ≡ take start out
     → take start after ≡ take start before
-no-hit-kept before out after at start h k e =
+kept-through before out after at start h k e =
     e ∙ sym (take-take start at out h) ∙ ap (take start) k ∙ take-take start at before h
 
 -- the last piece of what is left is put
@@ -83,7 +83,7 @@ left-then {todo} {piece} {bytes} {before} {out} {after} {end} {at} {start} p q =
       placed = omega (arith, length-append todo piece, p .placed, q .placed);
       earlier = omega (arith, p .earlier);
       written = ap (λ (r : List ℕ). todo ++ r) (q .written) ∙ sym (append-assoc todo piece (drop at out)) ∙ p .written;
-      kept = no-hit-kept before out after at start h (p .kept) (q .kept);
+      kept = kept-through before out after at start h (p .kept) (q .kept);
     }
 
 -- and so is all that is left
@@ -96,7 +96,7 @@ left-put {todo} {bytes} {before} {out} {after} {end} {at} {start} p q =
     record {
       placed = omega (arith, p .placed, q .placed);
       written = q .written ∙ p .written;
-      kept = no-hit-kept before out after at start h (p .kept) (q .kept);
+      kept = kept-through before out after at start h (p .kept) (q .kept);
     }
 
 -- one piece, and another in front of it

@@ -1,11 +1,12 @@
--- What document 01 prints: M1 from its text on, a refusal; and what these do not show, a number below zero, mode N and no hit.
+-- What document 01 prints: M1 from its text on, a refusal; and what these do not show, a number below zero, mode N and no entry.
+-- M00 and M01 of document 02, from a text on.
 use mathlib.Core.Path.{_≡_}
 use mathlib.Core.List.{List, [], _∷_}
 use Prim.Native.Nat.{ℕ}
 use lib.IntN.{pos, negsuc}
-use Rattle.aries.specs.declared.answer.Answer.the-variants.{Hits, Refused}
+use Rattle.aries.specs.declared.answer.Answer.the-variants.{Entries, Refused}
 use Rattle.aries.specs.Outcome.{Out}
-use Rattle.aries.specs.Hits.{Hit}
+use Rattle.aries.specs.declared.entry.Entry.{Entry}
 use Rattle.aries.specs.Plates.{numbers}
 use Rattle.aries.specs.Program.{answerOf, expand, listOf}
 use Rattle.aries.specs.Text.{bytes}
@@ -14,18 +15,26 @@ use Rattle.printing.specs.Listing.{listing}
 -- ---- M1
 
 -- the listing of what a text comes to, with a lent list of so many numbers
-abbrev pub printed : ℕ → Out (List Hit) → List ℕ
+abbrev pub printed : ℕ → Out (List Entry) → List ℕ
 printed numbers out = listing (answerOf out) (listOf numbers out)
 
 -- its four lines, at setting 1 and with the list that the program hitlist lends
 abbrev pub PlatePrinted : Type 0
 PlatePrinted =
     printed numbers (expand (pos 1) (bytes "G92 X600. Y600.\nG90 X100. Y100. T2\nG28 I10. J45. K2\nG50\n") numbers)
-    ≡ bytes "HITS 3\n1 10000 10000 2 P\n2 10707 10707 2 P\n3 11414 11414 2 P\n"
+    ≡ bytes "ENTRIES 3\n1 10000 10000 2 P\n2 10707 10707 2 P\n3 11414 11414 2 P\n"
+
+-- ---- M00 and M01
+
+-- stops before and after a hit
+abbrev pub StopsPrinted : Type 0
+StopsPrinted =
+    printed numbers (expand (pos 1) (bytes "G92 X600. Y600.\nM00\nX100. Y100. T2\nM01\nG50\n") numbers)
+    ≡ bytes "ENTRIES 3\n1 0 0 0 S\n2 10000 10000 2 P\n3 0 0 0 O\n"
 
 -- ---- Other listings
 
 pub record Examples : Type 0 where
   pub refused : listing (Refused 16 3) [] ≡ bytes "REFUSED 16 LINE 3\n"
-  pub nibbled : listing (Hits 1) (negsuc 1019 ∷ pos 0 ∷ pos 99 ∷ pos 1 ∷ []) ≡ bytes "HITS 1\n1 -1020 0 99 N\n"
-  pub empty : listing (Hits 0) [] ≡ bytes "HITS 0\n"
+  pub nibbled : listing (Entries 1) (negsuc 1019 ∷ pos 0 ∷ pos 99 ∷ pos 1 ∷ []) ≡ bytes "ENTRIES 1\n1 -1020 0 99 N\n"
+  pub empty : listing (Entries 0) [] ≡ bytes "ENTRIES 0\n"

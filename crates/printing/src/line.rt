@@ -8,7 +8,7 @@ ghost use Prim.Native.Nat.{suc, _+_, _*_, _≤_};
 ghost use lib.IntN.{pos};
 ghost use lib.ListN.{length, getD};
 ghost use Rattle.printing.specs.Buffers.{Room, Put};
-ghost use Rattle.printing.specs.Listing.{field, modeLetter, modeEnd, hitLine, headLine, refusalLine, longestLine};
+ghost use Rattle.printing.specs.Listing.{field, modeLetter, modeEnd, entryLine, headLine, refusalLine, longestLine};
 
 const LINE_FEED: u8 = 10;
 
@@ -16,7 +16,11 @@ const SPACE: u8 = 32;
 
 const LETTER_N: u8 = 78;
 
+const LETTER_O: u8 = 79;
+
 const LETTER_P: u8 = 80;
+
+const LETTER_S: u8 = 83;
 
 // A number of the list; past its end there are zeros.
 fn number_at(list: &[i32], i: usize) -> i32
@@ -30,13 +34,19 @@ fn mode_letter(mode: i32) -> u8
     ensures { λ r. ⌜ r ≡ modeLetter mode ⌝ }
 {
     if signed::equal(mode, 0) {
-        LETTER_P
+        return LETTER_P;
+    }
+    if signed::equal(mode, 1) {
+        return LETTER_N;
+    }
+    if signed::equal(mode, 2) {
+        LETTER_S
     } else {
-        LETTER_N
+        LETTER_O
     }
 }
 
-// The end of a hit's line: the mode that stands at a place of the list.
+// The end of an entry's line: the mode that stands at a place of the list.
 fn put_mode(out: &mut [u8], end: usize, list: &[i32], at: usize) -> usize
     requires { ⌜ Room 3 end (now out) ⌝ }
     ensures { λ r. ⌜ Put (modeEnd (getD (now (list .entry)) at (pos 0))) end (now (out .entry)) r (now (out .exit)) ⌝ }
@@ -56,10 +66,10 @@ fn put_field(out: &mut [u8], end: usize, list: &[i32], at: usize) -> usize
     put_byte(out, number, SPACE)
 }
 
-// The line of a hit that i others come before.
-pub fn put_hit(out: &mut [u8], end: usize, list: &[i32], i: usize) -> usize
+// The line of an entry that i others come before.
+pub fn put_entry(out: &mut [u8], end: usize, list: &[i32], i: usize) -> usize
     requires { ⌜ Room (longestLine * suc i) end (now out) ⌝ }
-    ensures { λ r. ⌜ Put (hitLine (now (list .entry)) i) end (now (out .entry)) r (now (out .exit)) ⌝ }
+    ensures { λ r. ⌜ Put (entryLine (now (list .entry)) i) end (now (out .entry)) r (now (out .exit)) ⌝ }
     ensures { λ r. ⌜ end ≤ r + longestLine ⌝ }
 {
     let at = 4 * i;
@@ -70,14 +80,14 @@ pub fn put_hit(out: &mut [u8], end: usize, list: &[i32], i: usize) -> usize
     put_decimal(out, x, (i + 1) as u64)
 }
 
-// The line above the hits.
+// The line above the entries.
 pub fn put_head(out: &mut [u8], end: usize, count: usize) -> usize
     requires { ⌜ Room longestLine end (now out) ⌝ }
     ensures { λ r. ⌜ Put (headLine count) end (now (out .entry)) r (now (out .exit)) ⌝ }
 {
     let feed = put_byte(out, end, LINE_FEED);
     let number = put_decimal(out, feed, count as u64);
-    put_text(out, number, b"HITS ")
+    put_text(out, number, b"ENTRIES ")
 }
 
 // The line of a refusal.

@@ -23,7 +23,7 @@ use Rattle.aries.specs.declared.setup.Stage.{Stage}
 use Rattle.aries.specs.declared.setup.Stage.the-variants.{Fresh, Running, Storing, Ended}
 use Rattle.aries.specs.declared.state.Progress.{Progress}
 use Rattle.aries.specs.Outcome.{refused}
-use Rattle.aries.specs.Hits.{noHit}
+use Rattle.aries.specs.Entries.{noEntry}
 use Rattle.aries.specs.Judging.{limits, near}
 use Rattle.aries.specs.Machine.{named}
 use Rattle.aries.specs.Moves.{_⊕_, movedTo, withState}
@@ -95,6 +95,6 @@ module _ (p : Program) (line : ℕ) (sheet : Sheet) (offset : Point) where
   unfolding setOrigin
   origin-far e = simp e
 
-  pub origin-near : near (referenceOf sheet ⊕ offset) ≡ true → settled p (setOrigin (limits (p .setup .job)) line sheet offset (p .setup)) ≡ noHit (withSetup p (withOrigin (p .setup) sheet offset))
+  pub origin-near : near (referenceOf sheet ⊕ offset) ≡ true → settled p (setOrigin (limits (p .setup .job)) line sheet offset (p .setup)) ≡ noEntry (withSetup p (withOrigin (p .setup) sheet offset))
   unfolding setOrigin
   origin-near e = simp e

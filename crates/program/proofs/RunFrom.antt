@@ -20,13 +20,13 @@ use Rattle.aries.specs.declared.state.Progress.{Progress}
 use Rattle.aries.specs.Outcome.{Out, refused, _>>=_}
 use Rattle.aries.specs.Letters.{letterV}
 use Rattle.aries.specs.Text.{lineFeed, lines, startsWith}
-use Rattle.aries.specs.Hits.{Made, noHit, andThen}
+use Rattle.aries.specs.Entries.{Made, noEntry, andThen}
 use Rattle.aries.specs.Judging.{Judging, room}
 use Rattle.aries.specs.Reader.{readerOf}
 use Rattle.aries.specs.Macros.{isCounted, begun, Begun, begin}
 use Rattle.aries.specs.Setup.{ordinaryFrame}
 use Rattle.aries.specs.Program.{withProgress, isStoring, passOver, runBlockOutside, runLineOutside, runFrom}
-use Rattle.aries.proofs.Runs.{no-hit-then}
+use Rattle.aries.proofs.Runs.{no-entry-then}
 use Rattle.text.specs.Lines.{lineLength, lineAt, lineEnd, blanks}
 use Rattle.text.proofs.Lines.{line-short, line-goes-on, feed-after, lines-at, lines-past, lines-blanks, blanks-go-on, first-byte}
 use Rattle.decode.specs.Decoding.{decodedAt}
@@ -40,7 +40,7 @@ countedAt t at = not (eqb (getD t at 0) letterV)
 
 module _ (j : Judging) (t : List ℕ) where
   -- nothing is left
-  pub text-end : (at line : ℕ) (p : Program) → length t ≤ at → linesFrom j t at line p ≡ noHit p
+  pub text-end : (at line : ℕ) (p : Program) → length t ≤ at → linesFrom j t at line p ≡ noEntry p
   unfolding runFrom
   text-end at line p h = rw (lines-past t at h)
 
@@ -56,7 +56,7 @@ module _ (j : Judging) (t : List ℕ) where
   blank-lines (suc n) at line ls p =
       let a : at + 0 + 1 + n ≡ at + suc n = omega arith in
       let e : suc line + n ≡ line + suc n = omega arith in
-      no-hit-then p (runFrom j t (at + 0 + 1) (suc line) (replicate n [] ++ ls))
+      no-entry-then p (runFrom j t (at + 0 + 1) (suc line) (replicate n [] ++ ls))
       ∙ blank-lines n (at + 0 + 1) (suc line) ls p
       ∙ ap (λ (k : ℕ). runFrom j t k (suc line + n) ls p) a
       ∙ ap (λ (k : ℕ). runFrom j t (at + suc n) k ls p) e
@@ -171,8 +171,8 @@ module _ (j : Judging) (t : List ℕ) where
         rest = linesFrom j t (lineEnd t at + 1) (line + 1)
 
         go : (v : Bool) → startsWith letterV (lineAt t at) ≡ v → andThen (passOver (lineAt t at) (program Storing s m g)) rest ≡ rest (program (cond v Running Storing) s m g)
-        go true w = let o : passOver (lineAt t at) (program Storing s m g) ≡ noHit (program Running s m g) = cc in rw o (no-hit-then (program Running s m g) rest)
-        go false w = let o : passOver (lineAt t at) (program Storing s m g) ≡ noHit (program Storing s m g) = cc in rw o (no-hit-then (program Storing s m g) rest)
+        go true w = let o : passOver (lineAt t at) (program Storing s m g) ≡ noEntry (program Running s m g) = cc in rw o (no-entry-then (program Running s m g) rest)
+        go false w = let o : passOver (lineAt t at) (program Storing s m g) ≡ noEntry (program Storing s m g) = cc in rw o (no-entry-then (program Storing s m g) rest)
 
     -- the V line ends that
     pub passed-close : getD t at 0 ≡ letterV → linesFrom j t (end + 1) (line + 1) (program Running s m g) ≡ linesFrom j t at line (program Storing s m g)

@@ -16,26 +16,27 @@ use Rattle.aries.specs.declared.state.Status.{Status}
 use Rattle.aries.specs.declared.state.Status.the-variants.{Passed, Refused}
 use Rattle.aries.specs.Outcome.{Out, done, refused, _>>=_}
 use Rattle.aries.specs.Text.{lines}
-use Rattle.aries.specs.Hits.{Hit, Made, noHit, adding, andThen, mapAfter}
+use Rattle.aries.specs.declared.entry.Entry.{Entry}
+use Rattle.aries.specs.Entries.{Made, noEntry, adding, andThen, mapAfter}
 use Rattle.aries.specs.Judging.{Judging, limits}
 use Rattle.aries.specs.Macros.{carryDirect, carry, Begun, begin}
 use Rattle.aries.specs.Program.{carryOut, runBlockOutside, runLineOutside, runFrom}
-use Rattle.aries.specs.Runs.{Lent, hitsMade, hitsOfProgram, Ran}
+use Rattle.aries.specs.Runs.{Lent, entriesMade, entriesOfProgram, Ran}
 use Rattle.aries.specs.Setup.{ordinaryFrame}
-use Rattle.aries.proofs.Runs.{ran-refused, ran-then, ran-map, no-hit-then, refused-out}
-use Rattle.stretches.specs.declared.Stop.{Stop}
-use Rattle.stretches.specs.declared.Stop.the-variants as Stop
+use Rattle.aries.proofs.Runs.{ran-refused, ran-then, ran-map, no-entry-then, refused-out}
+use Rattle.stretches.specs.declared.Sequel.{Sequel}
+use Rattle.stretches.specs.declared.Sequel.the-variants as Sequel
 use Rattle.stretches.specs.Stretches.{Stretched, stepOf, blockStep, begunStep, lineStep, onward, stretch}
-use Rattle.stretches.proofs.Stops.{Behind, first-line}
+use Rattle.stretches.proofs.Sequels.{Behind, first-line}
 use Rattle.program.specs.declared.turn.Next.the-variants as Next
 use Rattle.program.specs.declared.turn.Turn.{Turn}
 use Rattle.program.specs.Turns.{program, at, placed, linesFrom, leftOf, Comes, Beyond, Turns}
 use Rattle.program.proofs.RunFrom.{from-end}
 
--- hits, and then hits
-adding-again : {A : Type 0} (a b : List Hit) (out : Out (Made A)) → adding a (adding b out) ≡ adding (a ++ b) out
+-- entries, and then entries
+adding-again : {A : Type 0} (a b : List Entry) (out : Out (Made A)) → adding a (adding b out) ≡ adding (a ++ b) out
 adding-again a b (refused number line) = refl
-adding-again a b (done m) = ap (λ (l : List Hit). done (record { hits = l; after = m .after })) (sym (append-assoc a b (m .hits)))
+adding-again a b (done m) = ap (λ (l : List Entry). done (record { entries = l; after = m .after })) (sym (append-assoc a b (m .entries)))
 
 module _ (j : Judging) (t : List ℕ) (s : Setup) (m : Macros) where
   -- a block, and then the lines behind it
@@ -43,20 +44,20 @@ module _ (j : Judging) (t : List ℕ) (s : Setup) (m : Macros) where
   blockThen end line b p = andThen (placed j t end line b p) (linesFrom j t end line)
 
   -- what follows a stretch
-  abbrev pub following : Stop → Program → Out (Made Program)
-  following Stop.End p = noHit p
-  following (Stop.Call n end line) p = blockThen end line (Block.Call n) p
-  following (Stop.Outside o end line) p = blockThen end line (Block.Outside o) p
+  abbrev pub following : Sequel → Program → Out (Made Program)
+  following Sequel.End p = noEntry p
+  following (Sequel.Call n end line) p = blockThen end line (Block.Call n) p
+  following (Sequel.Outside o end line) p = blockThen end line (Block.Outside o) p
 
   abbrev all : Stretched → Out (Made Program)
-  all x = andThen (mapAfter (program Running s m) (x .made)) (following (x .stop))
+  all x = andThen (mapAfter (program Running s m) (x .made)) (following (x .sequel))
 
-  adding-all : (hs : List Hit) (x : Stretched) → adding hs (all x) ≡ all (record { made = adding hs (x .made); stop = x .stop })
-  adding-all hs x = go (x .made)
+  adding-all : (es : List Entry) (x : Stretched) → adding es (all x) ≡ all (record { made = adding es (x .made); sequel = x .sequel })
+  adding-all es x = go (x .made)
     where
-      go : (out : Out (Made Progress)) → adding hs (andThen (mapAfter (program Running s m) out) (following (x .stop))) ≡ andThen (mapAfter (program Running s m) (adding hs out)) (following (x .stop))
+      go : (out : Out (Made Progress)) → adding es (andThen (mapAfter (program Running s m) out) (following (x .sequel))) ≡ andThen (mapAfter (program Running s m) (adding es out)) (following (x .sequel))
       go (refused number line) = refl
-      go (done n) = adding-again hs (n .hits) (following (x .stop) (program Running s m (n .after)))
+      go (done n) = adding-again es (n .entries) (following (x .sequel) (program Running s m (n .after)))
 
   -- a line, and what follows it
   line-all :
@@ -69,18 +70,18 @@ module _ (j : Judging) (t : List ℕ) (s : Setup) (m : Macros) where
   line-all end line (b ∷ bs) g later rest same past = begins (begin j (ordinaryFrame s) line (b ∷ bs) g)
     where
       carried : (out : Out (Made Progress)) → andThen (mapAfter (program Running s m) out) rest ≡ all (onward (stepOf out) later)
-      carried (done n) = ap (adding (n .hits)) (same (n .after)) ∙ adding-all (n .hits) (later (n .after))
+      carried (done n) = ap (adding (n .entries)) (same (n .after)) ∙ adding-all (n .entries) (later (n .after))
       carried (refused number place) = refl
 
-      stops : (d : Block) (g : Progress) → andThen (placed j t end line d (program Running s m g)) rest ≡ adding [] (blockThen end line d (program Running s m g))
-      stops d g =
+      others : (d : Block) (g : Progress) → andThen (placed j t end line d (program Running s m g)) rest ≡ adding [] (blockThen end line d (program Running s m g))
+      others d g =
           ap (andThen (placed j t end line d (program Running s m g))) (fun-ext past)
-          ∙ sym (no-hit-then (program Running s m g) (blockThen end line d))
+          ∙ sym (no-entry-then (program Running s m g) (blockThen end line d))
 
       blocks : (d : Block) (g : Progress) → andThen (placed j t end line d (program Running s m g)) rest ≡ all (onward (blockStep j (ordinaryFrame s) end line d g) later)
       blocks (Block.Direct d) g = carried (carryDirect j (ordinaryFrame s) line d g)
-      blocks (Block.Call n) g = stops (Block.Call n) g
-      blocks (Block.Outside o) g = stops (Block.Outside o) g
+      blocks (Block.Call n) g = others (Block.Call n) g
+      blocks (Block.Outside o) g = others (Block.Outside o) g
 
       begins :
           (out : Out Begun)
@@ -105,7 +106,7 @@ module _ (j : Judging) (t : List ℕ) (s : Setup) (m : Macros) where
   pub lines-stretched :
       (at line : ℕ) (g : Progress)
       → linesFrom j t at line (program Running s m g)
-      ≡ andThen (mapAfter (program Running s m) (stretch j (ordinaryFrame s) at line (lines (drop at t)) g .made)) (following (stretch j (ordinaryFrame s) at line (lines (drop at t)) g .stop))
+      ≡ andThen (mapAfter (program Running s m) (stretch j (ordinaryFrame s) at line (lines (drop at t)) g .made)) (following (stretch j (ordinaryFrame s) at line (lines (drop at t)) g .sequel))
   lines-stretched at line g = lines-all (lines (drop at t)) at line g refl
 
 -- ---- A stretch that was carried out
@@ -114,7 +115,7 @@ module _ (t : List ℕ) (from line : ℕ) (s : Setup) (g : Progress) where
   abbrev pub here : Stretched
   here = stretch (limits (s .job)) (ordinaryFrame s) from line (lines (drop from t)) g
 
-  module _ {status : Status} {left : Progress} {before after : Lent} (ran : Ran hitsMade (s .job) status left before after (g .hits) (here .made)) where
+  module _ {status : Status} {left : Progress} {before after : Lent} (ran : Ran entriesMade (s .job) status left before after (g .entries) (here .made)) where
     -- it was refused
     pub stretch-refused :
         {r : Turn} {number place : ℕ} → status ≡ Refused number place → r ≡ record { stage = Running; setup = s; progress = left; next = Next.Refused number place }
@@ -122,28 +123,28 @@ module _ (t : List ℕ) (from line : ℕ) (s : Setup) (g : Progress) where
     stretch-refused {r} {number} {place} e is = rw is (record { leads = leads; job = refl; comes = tt })
       where
         leads :
-            (m : Macros) (status : Status) (end : Program) (last : Lent) → Ran hitsOfProgram (s .job) status end after last (left .hits) (refused number place)
-            → Ran hitsOfProgram (s .job) status end before last (g .hits) (linesFrom (limits (s .job)) t from line (program Running s m g))
+            (m : Macros) (status : Status) (end : Program) (last : Lent) → Ran entriesOfProgram (s .job) status end after last (left .entries) (refused number place)
+            → Ran entriesOfProgram (s .job) status end before last (g .entries) (linesFrom (limits (s .job)) t from line (program Running s m g))
         leads m status end last h =
             let o : here .made ≡ refused number place = refused-out (here .made) (sym e ∙ ran .same-status) in
             rw (lines-stretched (limits (s .job)) t s m from line g, o, h .same-status) ran-refused
 
     -- it passed
     pub stretch-passed :
-        {r : Turn} {stop : Stop} → status ≡ Passed → stop ≡ here .stop
-        → ((m : Macros) → leftOf (limits (s .job)) t (r .next) (at r m) ≡ following (limits (s .job)) t s m stop (program Running s m left)) → r .progress .hits ≡ left .hits
+        {r : Turn} {sequel : Sequel} → status ≡ Passed → sequel ≡ here .sequel
+        → ((m : Macros) → leftOf (limits (s .job)) t (r .next) (at r m) ≡ following (limits (s .job)) t s m sequel (program Running s m left)) → r .progress .entries ≡ left .entries
         → r .setup .job ≡ s .job → Comes (Beyond t from) (r .next) → Turns r t from line Running s g before after
-    stretch-passed {r} {stop} e f same hits job comes = record { leads = leads; job = job; comes = comes }
+    stretch-passed {r} {sequel} e f same entries job comes = record { leads = leads; job = job; comes = comes }
       where
         leads :
-            (m : Macros) (status : Status) (end : Program) (last : Lent) → Ran hitsOfProgram (s .job) status end after last (r .progress .hits) (leftOf (limits (s .job)) t (r .next) (at r m))
-            → Ran hitsOfProgram (s .job) status end before last (g .hits) (linesFrom (limits (s .job)) t from line (program Running s m g))
+            (m : Macros) (status : Status) (end : Program) (last : Lent) → Ran entriesOfProgram (s .job) status end after last (r .progress .entries) (leftOf (limits (s .job)) t (r .next) (at r m))
+            → Ran entriesOfProgram (s .job) status end before last (g .entries) (linesFrom (limits (s .job)) t from line (program Running s m g))
         leads m status end last h =
             rw (lines-stretched (limits (s .job)) t s m from line g)
-            (ran-then (mapAfter (program Running s m) (here .made)) (following (limits (s .job)) t s m (here .stop))
+            (ran-then (mapAfter (program Running s m) (here .made)) (following (limits (s .job)) t s m (here .sequel))
             (ran-map (program Running s m) (λ x. refl) (here .made) (rw e at ran))
-            (rw (same m, hits, f) at h))
+            (rw (same m, entries, f) at h))
 
-  -- where it stopped lies further on
-  pub stop-beyond : (end place : ℕ) → line ≤ from + 1 → Behind t from line end place → Beyond t from end place
-  stop-beyond end place n b = record { further = b .after; inside = omega (arith, b .inside); numbered = omega (arith, b .paced) }
+  -- what comes after it lies further on
+  pub sequel-beyond : (end place : ℕ) → line ≤ from + 1 → Behind t from line end place → Beyond t from end place
+  sequel-beyond end place n b = record { further = b .after; inside = omega (arith, b .inside); numbered = omega (arith, b .paced) }

@@ -1,4 +1,4 @@
--- Laws of turns: what is left behind something that makes no hit, and behind the lines from a place on.
+-- Laws of turns: what is left behind something that makes no entry, and behind the lines from a place on.
 use mathlib.Core.Path.{_≡_, refl, sym, subst, _∙_}
 use mathlib.Core.List.{List}
 use Prim.Native.Nat.{ℕ}
@@ -9,33 +9,33 @@ use Rattle.aries.specs.declared.setup.Stage.{Stage}
 use Rattle.aries.specs.declared.setup.Stage.the-variants.{Running}
 use Rattle.aries.specs.declared.state.Progress.{Progress}
 use Rattle.aries.specs.Outcome.{Out, refused}
-use Rattle.aries.specs.Hits.{Made, noHit, andThen}
+use Rattle.aries.specs.Entries.{Made, noEntry, andThen}
 use Rattle.aries.specs.Judging.{Judging, limits}
-use Rattle.aries.specs.Runs.{Lent, hitsOfProgram, Ran}
+use Rattle.aries.specs.Runs.{Lent, entriesOfProgram, Ran}
 use Rattle.aries.specs.declared.setup.Program.{Program}
-use Rattle.aries.proofs.Runs.{no-hit-then}
+use Rattle.aries.proofs.Runs.{no-entry-then}
 use Rattle.program.specs.declared.turn.Next.{Next}
 use Rattle.program.specs.declared.turn.Next.the-variants.{Line, Run, Open, Refused}
 use Rattle.program.specs.declared.turn.Turn.{Turn}
 use Rattle.program.specs.Turns.{program, at, placed, linesFrom, leftOf, Comes, Beyond, Leaves, Settles, Turns}
 
--- ---- Something that makes no hit
+-- ---- Something that makes no entry
 
 module _ {r : Turn} (end line : ℕ) (s : Setup) (g : Progress) (what : Judging → List ℕ → Macros → Out (Made Program)) where
   -- a refusal
   pub leaves-refused :
       {number : ℕ} → r ≡ record { stage = Running; setup = s; progress = g; next = Refused number line }
       → ((t : List ℕ) (m : Macros) → what (limits (s .job)) t m ≡ refused number line) → Leaves r end line s g what
-  leaves-refused e o = rw e (record { same = λ t m. rw (o t m); hits = refl; job = refl; comes = tt })
+  leaves-refused e o = rw e (record { same = λ t m. rw (o t m); entries = refl; job = refl; comes = tt })
 
   -- the lines behind it follow
   pub leaves-line :
       {stage : Stage} {s' : Setup} {g' : Progress} → r ≡ record { stage = stage; setup = s'; progress = g'; next = Line end line } → s' .job ≡ s .job
-      → g' .hits ≡ g .hits → ((t : List ℕ) (m : Macros) → what (limits (s .job)) t m ≡ noHit (program stage s' m g')) → Leaves r end line s g what
+      → g' .entries ≡ g .entries → ((t : List ℕ) (m : Macros) → what (limits (s .job)) t m ≡ noEntry (program stage s' m g')) → Leaves r end line s g what
   leaves-line {stage} {s'} {g'} e i h o =
       rw e (record {
-        same = λ t m. rw (o t m, no-hit-then (program stage s' m g') (linesFrom (limits (s .job)) t end line));
-        hits = h;
+        same = λ t m. rw (o t m, no-entry-then (program stage s' m g') (linesFrom (limits (s .job)) t end line));
+        entries = h;
         job = i;
         comes = (refl, refl);
       })
@@ -49,16 +49,16 @@ comes-beyond t from end line (Run k e l) b c = rw (c .0, c .1) b
 comes-beyond t from end line (Open n e l) b c = rw (c .0, c .1) b
 comes-beyond t from end line (Refused number l) b c = tt
 
--- lines that make no hit
+-- lines that make no entry
 pub turns-same :
     (r : Turn) (t : List ℕ) (from line : ℕ) (stage : Stage) (s : Setup) (g : Progress)
     → ((m : Macros) → leftOf (limits (s .job)) t (r .next) (at r m) ≡ linesFrom (limits (s .job)) t from line (program stage s m g))
-    → r .progress .hits ≡ g .hits → r .setup .job ≡ s .job → Comes (Beyond t from) (r .next) → (l : Lent) → Turns r t from line stage s g l l
-turns-same r t from line stage s g same hits job comes l =
+    → r .progress .entries ≡ g .entries → r .setup .job ≡ s .job → Comes (Beyond t from) (r .next) → (l : Lent) → Turns r t from line stage s g l l
+turns-same r t from line stage s g same entries job comes l =
     record {
       leads = λ m status left last h.
-          subst (λ (k : ℕ). Ran hitsOfProgram (s .job) status left l last k (linesFrom (limits (s .job)) t from line (program stage s m g))) hits
-          (subst (λ (o : Out (Made Program)). Ran hitsOfProgram (s .job) status left l last (r .progress .hits) o) (same m) h);
+          subst (λ (k : ℕ). Ran entriesOfProgram (s .job) status left l last k (linesFrom (limits (s .job)) t from line (program stage s m g))) entries
+          (subst (λ (o : Out (Made Program)). Ran entriesOfProgram (s .job) status left l last (r .progress .entries) o) (same m) h);
       job = job;
       comes = comes;
     }
@@ -79,11 +79,11 @@ module _ {r : Turn} (t : List ℕ) (from line : ℕ) (stage : Stage) (s : Setup)
 
   -- a block that was settled, which found a progress of its own
   pub turns-settled :
-      {g' : Progress} (end place : ℕ) (b : Block) → Settles r end place b stage s g' → g' .hits ≡ g .hits → Beyond t from end place
+      {g' : Progress} (end place : ℕ) (b : Block) → Settles r end place b stage s g' → g' .entries ≡ g .entries → Beyond t from end place
       → ((m : Macros) → linesFrom (limits (s .job)) t from line (program stage s m g) ≡ andThen (placed (limits (s .job)) t end place b (program stage s m g')) (linesFrom (limits (s .job)) t end place))
       → (l : Lent) → Turns r t from line stage s g l l
   turns-settled end place b settled h far same l =
-      turns-same r t from line stage s g (λ m. settled .same t m ∙ sym (same m)) (settled .hits ∙ h) (settled .job) (comes-beyond t from end place (r .next) far (settled .comes)) l
+      turns-same r t from line stage s g (λ m. settled .same t m ∙ sym (same m)) (settled .entries ∙ h) (settled .job) (comes-beyond t from end place (r .next) far (settled .comes)) l
 
 -- at a stage by another name
 pub turns-at :

@@ -16,15 +16,15 @@ use Rattle.aries.specs.declared.state.Progress.{Progress}
 use Rattle.aries.specs.declared.state.Status.{Status}
 use Rattle.aries.specs.declared.state.Status.the-variants.{Passed, Refused}
 use Rattle.aries.specs.Outcome.{Out}
-use Rattle.aries.specs.Hits.{Made, andThen}
+use Rattle.aries.specs.Entries.{Made, andThen}
 use Rattle.aries.specs.Judging.{limits}
 use Rattle.aries.specs.Macros.{noMacros}
 use Rattle.aries.specs.Moves.{freshProgress}
 use Rattle.aries.specs.Program.{freshProgram, runFrom}
-use Rattle.aries.specs.Runs.{Lent, lent, hitsOfProgram, Ran}
+use Rattle.aries.specs.Runs.{Lent, lent, entriesOfProgram, Ran}
 use Rattle.aries.specs.Setup.{freshSetup}
 use Rattle.aries.specs.Text.{lines}
-use Rattle.aries.proofs.Runs.{ran-refused, ran-stop, Leads, leads-start, leads-as, leads-on, leads-end}
+use Rattle.aries.proofs.Runs.{ran-refused, ran-ended, Leads, leads-start, leads-as, leads-on, leads-end}
 use Rattle.program.specs.declared.turn.Next.{Next}
 use Rattle.program.specs.declared.turn.Next.the-variants as Next
 use Rattle.program.specs.declared.turn.Turn.{Turn}
@@ -35,16 +35,16 @@ module _ (job : Job) (l₀ : List ℤ) (t : List ℕ) where
   abbrev pub whole : Out (Made Program)
   whole = runFrom (limits job) t 0 1 (lines t) (freshProgram job)
 
-  -- what is left, from a list and a count of hits on
+  -- what is left, from a list and a count of entries on
   abbrev Left : Lent → ℕ → Out (Made Program) → Type 0
-  Left l k rest = Leads hitsOfProgram job l k rest (lent l₀) 0 whole
+  Left l k rest = Leads entriesOfProgram job l k rest (lent l₀) 0 whole
 
   pub record Underway (l : List ℤ) (stage : Stage) (s : Setup) (m : Macros) (g : Progress) (at line : ℕ) : Type 0 where
     pub kept : length l ≡ length l₀
     pub same-job : s .job ≡ job
     pub inside : at ≤ length t + 1
     pub numbered : line ≤ at + 1
-    pub leads : Left (lent l) (g .hits) (linesFrom (limits job) t at line (program stage s m g))
+    pub leads : Left (lent l) (g .entries) (linesFrom (limits job) t at line (program stage s m g))
 
   pub underway-start : Underway l₀ Fresh (freshSetup job) noMacros freshProgress 0 1
   underway-start = record { kept = refl; same-job = refl; inside = omega arith; numbered = omega arith; leads = leads-start refl }
@@ -52,25 +52,25 @@ module _ (job : Job) (l₀ : List ℤ) (t : List ℕ) where
   -- the end of the text
   pub underway-end :
       {l : List ℤ} {stage : Stage} {s : Setup} {m : Macros} {g : Progress} {at line : ℕ} → Underway l stage s m g at line → length t ≤ at
-      → Ran hitsOfProgram job Passed (program stage s m g) (lent l₀) (lent l) 0 whole
+      → Ran entriesOfProgram job Passed (program stage s m g) (lent l₀) (lent l) 0 whole
   underway-end {stage = stage} {s} {m} {g} {at} {line} u h = leads-end (leads-as (text-end (limits job) t at line (program stage s m g) h) (u .leads))
 
   -- a turn
   module _
       {l l' : List ℤ} {stage : Stage} {s : Setup} {g : Progress} {from line : ℕ} {r : Turn} (m : Macros) (u : Underway l stage s m g from line)
       (same : length l' ≡ length l) (turn : Turns r t from line stage s g (lent l) (lent l')) where
-    left : {n : Next} → r .next ≡ n → Left (lent l') (r .progress .hits) (leftOf (limits job) t n (at r m))
+    left : {n : Next} → r .next ≡ n → Left (lent l') (r .progress .entries) (leftOf (limits job) t n (at r m))
     left e status end last h =
         u .leads status end last
-        (subst (λ (k : Job). Ran hitsOfProgram k status end (lent l') last (r .progress .hits) (leftOf (limits k) t (r .next) (at r m)) → Ran hitsOfProgram k status end (lent l) last (g .hits) (linesFrom (limits k) t from line (program stage s m g)))
+        (subst (λ (k : Job). Ran entriesOfProgram k status end (lent l') last (r .progress .entries) (leftOf (limits k) t (r .next) (at r m)) → Ran entriesOfProgram k status end (lent l) last (g .entries) (linesFrom (limits k) t from line (program stage s m g)))
         (u .same-job) (turn .leads m status end last)
-        (subst (λ (n : Next). Ran hitsOfProgram job status end (lent l') last (r .progress .hits) (leftOf (limits job) t n (at r m))) (sym e) h))
+        (subst (λ (n : Next). Ran entriesOfProgram job status end (lent l') last (r .progress .entries) (leftOf (limits job) t n (at r m))) (sym e) h))
 
     pub comes-at : {n : Next} → r .next ≡ n → Comes (Beyond t from) n
     comes-at e = subst (Comes (Beyond t from)) e (turn .comes)
 
     -- it was refused
-    pub turn-refused : {number place : ℕ} → r .next ≡ Next.Refused number place → (end : Program) → Ran hitsOfProgram job (Refused number place) end (lent l₀) (lent l') 0 whole
+    pub turn-refused : {number place : ℕ} → r .next ≡ Next.Refused number place → (end : Program) → Ran entriesOfProgram job (Refused number place) end (lent l₀) (lent l') 0 whole
     turn-refused {number} {place} e end = left e (Refused number place) end (lent l') ran-refused
 
     -- lines are left
@@ -83,14 +83,14 @@ module _ (job : Job) (l₀ : List ℤ) (t : List ℕ) where
     module _
         (b : Block) (end place : ℕ) {n : Next} {status : Status} {p : Program} {l'' : List ℤ} (next : r .next ≡ n) (far : Beyond t from end place)
         (is : leftOf (limits job) t n (at r m) ≡ andThen (carried (limits job) t end place b (at r m)) (linesFrom (limits job) t end place))
-        (ran : Ran hitsOfProgram (r .setup .job) status p (lent l') (lent l'') (r .progress .hits) (carried (limits (r .setup .job)) t end place b (at r m))) where
-      ran-here : {x : Status} → status ≡ x → Ran hitsOfProgram job x p (lent l') (lent l'') (r .progress .hits) (carried (limits job) t end place b (at r m))
+        (ran : Ran entriesOfProgram (r .setup .job) status p (lent l') (lent l'') (r .progress .entries) (carried (limits (r .setup .job)) t end place b (at r m))) where
+      ran-here : {x : Status} → status ≡ x → Ran entriesOfProgram job x p (lent l') (lent l'') (r .progress .entries) (carried (limits job) t end place b (at r m))
       ran-here {x} e =
-          subst (λ (y : Status). Ran hitsOfProgram job y p (lent l') (lent l'') (r .progress .hits) (carried (limits job) t end place b (at r m))) e
-          (subst (λ (k : Job). Ran hitsOfProgram k status p (lent l') (lent l'') (r .progress .hits) (carried (limits k) t end place b (at r m))) (turn .job ∙ u .same-job) ran)
+          subst (λ (y : Status). Ran entriesOfProgram job y p (lent l') (lent l'') (r .progress .entries) (carried (limits job) t end place b (at r m))) e
+          (subst (λ (k : Job). Ran entriesOfProgram k status p (lent l') (lent l'') (r .progress .entries) (carried (limits k) t end place b (at r m))) (turn .job ∙ u .same-job) ran)
 
-      pub block-refused : {number line : ℕ} → status ≡ Refused number line → (last : Program) → Ran hitsOfProgram job (Refused number line) last (lent l₀) (lent l'') 0 whole
-      block-refused {number} {line} e last = leads-as is (left next) (Refused number line) last (lent l'') (ran-stop (linesFrom (limits job) t end place) (ran-here e))
+      pub block-refused : {number line : ℕ} → status ≡ Refused number line → (last : Program) → Ran entriesOfProgram job (Refused number line) last (lent l₀) (lent l'') 0 whole
+      block-refused {number} {line} e last = leads-as is (left next) (Refused number line) last (lent l'') (ran-ended (linesFrom (limits job) t end place) (ran-here e))
 
       pub block-passed : status ≡ Passed → length l'' ≡ length l' → p .setup ≡ r .setup → Underway l'' (p .stage) (p .setup) (p .macros) (p .progress) end place
       block-passed e k same-setup =

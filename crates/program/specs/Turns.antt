@@ -18,10 +18,10 @@ use Rattle.aries.specs.declared.state.Progress.{Progress}
 use Rattle.aries.specs.declared.state.Status.{Status}
 use Rattle.aries.specs.Outcome.{Out, refused, _>>=_, need}
 use Rattle.aries.specs.Text.{lines}
-use Rattle.aries.specs.Hits.{Made, andThen}
+use Rattle.aries.specs.Entries.{Made, andThen}
 use Rattle.aries.specs.Judging.{Judging, limits}
 use Rattle.aries.specs.Program.{inPlace, carryOut, settled, runFrom}
-use Rattle.aries.specs.Runs.{Lent, hitsOfProgram, Ran}
+use Rattle.aries.specs.Runs.{Lent, entriesOfProgram, Ran}
 use Rattle.aries.specs.Setup.{setOrigin}
 use Rattle.program.specs.declared.turn.Called.{Called}
 use Rattle.program.specs.declared.turn.Called.the-variants.{Macro, Part}
@@ -97,10 +97,10 @@ Alone Running = ⊥
 Alone Storing = ⊥
 Alone Ended = Unit {0}
 
--- Something that makes no hit, in a line that ends at a place: what is left is the same as before.
+-- Something that makes no entry, in a line that ends at a place: what is left is the same as before.
 pub record Leaves (r : Turn) (end line : ℕ) (s : Setup) (g : Progress) (what : Judging → List ℕ → Macros → Out (Made Program)) : Type 0 where
   pub same : (t : List ℕ) (m : Macros) → leftOf (limits (s .job)) t (r .next) (at r m) ≡ andThen (what (limits (s .job)) t m) (linesFrom (limits (s .job)) t end line)
-  pub hits : r .progress .hits ≡ g .hits
+  pub entries : r .progress .entries ≡ g .entries
   pub job : r .setup .job ≡ s .job
   pub comes : Comes (λ e l. (e ≡ end) × (l ≡ line)) (r .next)
 
@@ -114,8 +114,8 @@ Settles r end line b stage s g = Leaves r end line s g (λ j t m. placed j t end
 pub record Turns (r : Turn) (t : List ℕ) (from line : ℕ) (stage : Stage) (s : Setup) (g : Progress) (before after : Lent) : Type 0 where
   pub leads :
       (m : Macros) (status : Status) (left : Program) (last : Lent)
-      → Ran hitsOfProgram (s .job) status left after last (r .progress .hits) (leftOf (limits (s .job)) t (r .next) (at r m))
-      → Ran hitsOfProgram (s .job) status left before last (g .hits) (linesFrom (limits (s .job)) t from line (program stage s m g))
+      → Ran entriesOfProgram (s .job) status left after last (r .progress .entries) (leftOf (limits (s .job)) t (r .next) (at r m))
+      → Ran entriesOfProgram (s .job) status left before last (g .entries) (linesFrom (limits (s .job)) t from line (program stage s m g))
   pub job : r .setup .job ≡ s .job
   pub comes : Comes (Beyond t from) (r .next)
 
@@ -123,4 +123,4 @@ pub record Turns (r : Turn) (t : List ℕ) (from line : ℕ) (stage : Stage) (s 
 abbrev pub Runs : Outcome → List ℕ → Called → ℕ → Setup → Macros → Progress → Lent → Lent → Type 0
 Runs r t c line s m g before after =
     (stage : Stage) (end : ℕ)
-    → Ran hitsOfProgram (s .job) (r .status) (program stage s m (r .progress)) before after (g .hits) (carried (limits (s .job)) t end line (blockOf c) (program stage s m g))
+    → Ran entriesOfProgram (s .job) (r .status) (program stage s m (r .progress)) before after (g .entries) (carried (limits (s .job)) t end line (blockOf c) (program stage s m g))

@@ -14,7 +14,7 @@ use aries::state::Outcome;
 use aries::state::Progress;
 use aries::state::Status;
 use storing::open_body;
-use stretches::Stop;
+use stretches::Sequel;
 use stretches::look_ahead;
 use stretches::run_stretch;
 ghost use Prim.Native.Nat.{_≤_, _<_, _+_};
@@ -84,7 +84,7 @@ fn pass_over(text: &[u8], at: usize, line: u64, setup: Setup, progress: Progress
     }
 }
 
-// The direct blocks from a place on, while the program runs, and the block at which they stop.
+// The direct blocks from a place on, while the program runs, and the block that comes after them.
 fn run_on(
     list: &mut [i32],
     text: &[u8],
@@ -105,13 +105,13 @@ fn run_on(
     if let Status::Refused(number, place) = status {
         return Turn::running(setup, left, Next::Refused(number, place));
     }
-    let stop = stretch.stop;
-    match stop {
-        Stop::End => Turn::running(setup, left, Next::Line(text.len(), line)),
-        Stop::Call(number, end, place) => {
+    let sequel = stretch.sequel;
+    match sequel {
+        Sequel::End => Turn::running(setup, left, Next::Line(text.len(), line)),
+        Sequel::Call(number, end, place) => {
             Turn::running(setup, left, Next::Run(Called::Macro(number), end, place))
         }
-        Stop::Outside(outside, end, place) => outside::settle(end, place, outside, setup, left),
+        Sequel::Outside(outside, end, place) => outside::settle(end, place, outside, setup, left),
     }
 }
 

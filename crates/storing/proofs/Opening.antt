@@ -13,7 +13,7 @@ use Rattle.aries.specs.declared.setup.Setup.{Setup}
 use Rattle.aries.specs.declared.state.Progress.{Progress}
 use Rattle.aries.specs.Outcome.{Out, refused, _>>=_, need}
 use Rattle.aries.specs.Text.{lines}
-use Rattle.aries.specs.Hits.{Made, noHit, mapAfter}
+use Rattle.aries.specs.Entries.{Made, noEntry, mapAfter}
 use Rattle.aries.specs.Judging.{Judging}
 use Rattle.aries.specs.Macros.{Body, part, bodiesOf, storing, characters, mostCalls, call, runLines, runBody}
 use Rattle.aries.specs.Reader.{readerOf}
@@ -24,7 +24,7 @@ use Rattle.aries.specs.Bodies.{bodySize, mostCharacters, runsFirst, firstRun, b
 
 module _ (j : Judging) (text : List ℕ) (m : Macros) (n : ℕ) (b : Body) (s : Setup) (g : Progress) where
   -- only stored
-  pub runs-not : runsFirst n (s .sheet) ≡ false → firstRun j text m n b s g ≡ noHit g
+  pub runs-not : runsFirst n (s .sheet) ≡ false → firstRun j text m n b s g ≡ noEntry g
   unfolding firstRun
   runs-not e = simp (firstRun, e)
 

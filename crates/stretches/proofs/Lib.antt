@@ -2,4 +2,4 @@ pub mod Lookahead
 pub mod Plain
 pub mod Stretches
 pub mod Turns
-pub mod Stops
+pub mod Sequels

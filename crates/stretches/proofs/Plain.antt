@@ -13,19 +13,19 @@ use Rattle.aries.specs.declared.block.Axes.{Axes}
 use Rattle.aries.specs.declared.block.Pattern.{Pattern}
 use Rattle.aries.specs.declared.block.Pattern.the-variants.{Line}
 use Rattle.aries.specs.declared.block.Direct.{Direct}
-use Rattle.aries.specs.declared.block.Direct.the-variants.{Lone, Punch, Move, PatternOrigin, RunPattern, Recall, Nibble, Idle}
+use Rattle.aries.specs.declared.block.Direct.the-variants.{Lone, Punch, Move, PatternOrigin, RunPattern, Recall, Nibble, Idle, Stop}
 use Rattle.aries.specs.declared.job.Job.{Job}
 use Rattle.aries.specs.declared.state.Frame.{Frame}
 use Rattle.aries.specs.declared.state.Memory.{Memory}
 use Rattle.aries.specs.declared.state.Progress.{Progress}
 use Rattle.aries.specs.declared.state.Status.{Status}
 use Rattle.aries.specs.Outcome.{Out, done, _>>=_, need}
-use Rattle.aries.specs.Hits.{Made}
+use Rattle.aries.specs.Entries.{Made}
 use Rattle.aries.specs.Judging.{Judging, judged, near, room}
 use Rattle.aries.specs.Machine.{inRange}
 use Rattle.aries.specs.Macros.{carryDirect}
 use Rattle.aries.specs.Moves.{choosing, target, punch, position, move, setPatternOrigin}
-use Rattle.aries.specs.Runs.{Lent, Ran, hitsMade}
+use Rattle.aries.specs.Runs.{Lent, Ran, entriesMade}
 use Rattle.aries.proofs.Outcomes.{refused≢done, done-injective}
 use Rattle.stretches.specs.Plain.{isPattern, keeping}
 
@@ -42,7 +42,7 @@ noPattern = Line (pos 0) (pos 0) 0
 
 -- the tags of the plain blocks, and of those that an arm for all others is left with, whatever they hold
 abbrev plainTags : List ℕ
-plainTags = tag Lone ∷ tag (Punch noAxes 0) ∷ tag (Move noAxes 0) ∷ tag (PatternOrigin noAxes) ∷ tag (Nibble false) ∷ tag Idle ∷ []
+plainTags = tag Lone ∷ tag (Punch noAxes 0) ∷ tag (Move noAxes 0) ∷ tag (PatternOrigin noAxes) ∷ tag (Nibble false) ∷ tag Idle ∷ tag (Stop false) ∷ []
 
 abbrev leftTags : List ℕ
 leftTags = tag (RunPattern noPattern 0 0) ∷ tag (Recall 0) ∷ tag Idle ∷ []
@@ -57,6 +57,7 @@ other-plain (Move a tool) h = refl
 other-plain (PatternOrigin a) h = refl
 other-plain (Nibble on) h = refl
 other-plain Idle h = refl
+other-plain (Stop optional) h = refl
 
 -- of a plain block and the two, the one that is left
 pub idle-left : (d : Direct) → isPattern d ≡ false → OneOf leftTags (tag d) → d ≡ Idle
@@ -68,6 +69,7 @@ idle-left (Move a tool) e h = absurd (miss leftTags (tag (Move a tool)) tt h)
 idle-left (PatternOrigin a) e h = absurd (miss leftTags (tag (PatternOrigin a)) tt h)
 idle-left (Nibble on) e h = absurd (miss leftTags (tag (Nibble on)) tt h)
 idle-left Idle e h = refl
+idle-left (Stop optional) e h = absurd (miss leftTags (tag (Stop optional)) tt h)
 
 -- ---- The pattern memories
 
@@ -94,18 +96,19 @@ module _ (j : Judging) (f : Frame) (line : ℕ) (g : Progress) where
   plain-keeps Lone e = keeps-done refl
   plain-keeps (Punch a tool) e =
       keeps-need (ltb 0 (choosing (g .state) tool .tool)) 14 line
-      (keeps-need (near-target a) 15 line (keeps-need (covered-target a) 16 line (keeps-need (room (j .places) (g .hits)) 17 line (keeps-done refl))))
+      (keeps-need (near-target a) 15 line (keeps-need (covered-target a) 16 line (keeps-need (room (j .places) (g .entries)) 17 line (keeps-done refl))))
   plain-keeps (Move a tool) e = keeps-need (near-target a) 15 line (keeps-need (covered-target a) 16 line (keeps-done refl))
   plain-keeps (PatternOrigin a) e = keeps-need (near-target a) 15 line (keeps-done refl)
   plain-keeps (RunPattern p tool memory) e = absurd (true≢false e)
   plain-keeps (Recall n) e = absurd (true≢false e)
   plain-keeps (Nibble on) e = keeps-done refl
   plain-keeps Idle e = keeps-done refl
+  plain-keeps (Stop optional) e = keeps-need (room (j .places) (g .entries)) 17 line (keeps-done refl)
 
   -- a plain block that is carried out is so with the memories of before put back
   pub plain-kept :
       {job : Job} {status : Status} {left : Progress} {before after : Lent} {k : ℕ} (d : Direct) → isPattern d ≡ false
-      → Ran hitsMade job status left before after k (carryDirect j f line d g) → Ran hitsMade job status (keeping g left) before after k (carryDirect j f line d g)
+      → Ran entriesMade job status left before after k (carryDirect j f line d g) → Ran entriesMade job status (keeping g left) before after k (carryDirect j f line d g)
   plain-kept d e ran =
       record {
         same-status = ran .same-status;

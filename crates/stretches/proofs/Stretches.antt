@@ -14,39 +14,39 @@ use Rattle.aries.specs.declared.state.Progress.{Progress}
 use Rattle.aries.specs.declared.state.Status.{Status}
 use Rattle.aries.specs.declared.state.Status.the-variants.{Passed, Refused}
 use Rattle.aries.specs.Outcome.{Out, done, refused}
-use Rattle.aries.specs.Hits.{Made, noHit, adding, andThen}
+use Rattle.aries.specs.Entries.{Made, noEntry, adding, andThen}
 use Rattle.aries.specs.Judging.{Judging, limits}
 use Rattle.aries.specs.Macros.{begin}
-use Rattle.aries.specs.Runs.{Lent, Ran, hitsMade}
+use Rattle.aries.specs.Runs.{Lent, Ran, entriesMade}
 use Rattle.aries.specs.Text.{lines, lineFeed}
-use Rattle.aries.proofs.Runs.{ran-refused, ran-no-hit, passed-done, Leads, leads-start, leads-as, leads-on}
+use Rattle.aries.proofs.Runs.{ran-refused, ran-no-entry, passed-done, Leads, leads-start, leads-as, leads-on}
 use Rattle.text.specs.Lines.{lineLength, blanks, lineAt, lineEnd}
 use Rattle.text.proofs.Lines.{line-short, line-goes-on, line-ends, feed-after, lines-at, lines-past, lines-blanks}
-use Rattle.stretches.specs.declared.Stop.{Stop}
-use Rattle.stretches.specs.declared.Stop.the-variants as Stop
+use Rattle.stretches.specs.declared.Sequel.{Sequel}
+use Rattle.stretches.specs.declared.Sequel.the-variants as Sequel
 use Rattle.stretches.specs.declared.Stretch.{Stretch}
 use Rattle.stretches.specs.Stretches.{Stretched, refusedAt, endingWith, stepOf, begunStep, lineStep, onward, stretch, Stretches}
 
 -- ---- One step, and what follows
 
 -- nothing done, and then the rest
-onward-no-hit : (g : Progress) (rest : Progress → Stretched) → onward (stepOf (noHit g)) rest ≡ rest g
-onward-no-hit g rest = go (rest g)
+onward-no-entry : (g : Progress) (rest : Progress → Stretched) → onward (stepOf (noEntry g)) rest ≡ rest g
+onward-no-entry g rest = go (rest g)
   where
     nothing : (out : Out (Made Progress)) → adding [] out ≡ out
     nothing (done m) = refl
     nothing (refused number line) = refl
 
-    go : (s : Stretched) → record { made = adding [] (s .made); stop = s .stop } ≡ s
-    go s = ap (λ (out : Out (Made Progress)). record { made = out; stop = s .stop }) (nothing (s .made))
+    go : (s : Stretched) → record { made = adding [] (s .made); sequel = s .sequel } ≡ s
+    go s = ap (λ (out : Out (Made Progress)). record { made = out; sequel = s .sequel }) (nothing (s .made))
 
 -- something done, and then the rest
 onward-made : (out : Out (Made Progress)) (rest : Progress → Stretched) → onward (stepOf out) rest .made ≡ andThen out (λ g. rest g .made)
 onward-made (done m) rest = refl
 onward-made (refused number line) rest = refl
 
-onward-stop : (out : Out (Made Progress)) (m : Made Progress) (rest : Progress → Stretched) → out ≡ done m → onward (stepOf out) rest .stop ≡ rest (m .after) .stop
-onward-stop out m rest e = ap (λ (o : Out (Made Progress)). onward (stepOf o) rest .stop) e
+onward-sequel : (out : Out (Made Progress)) (m : Made Progress) (rest : Progress → Stretched) → out ≡ done m → onward (stepOf out) rest .sequel ≡ rest (m .after) .sequel
+onward-sequel out m rest e = ap (λ (o : Out (Made Progress)). onward (stepOf o) rest .sequel) e
 
 -- ---- From line to line of a text
 
@@ -61,7 +61,7 @@ module _ (j : Judging) (f : Frame) where
   blank-lines (suc n) at line ls g =
       let a : at + 0 + 1 + n ≡ at + suc n = omega arith in
       let b : suc line + n ≡ line + suc n = omega arith in
-      onward-no-hit g (stretch j f (at + 0 + 1) (suc line) (replicate n [] ++ ls))
+      onward-no-entry g (stretch j f (at + 0 + 1) (suc line) (replicate n [] ++ ls))
       ∙ blank-lines n (at + 0 + 1) (suc line) ls g
       ∙ ap₂ (λ (a b : ℕ). stretch j f a b ls g) a b
 
@@ -89,7 +89,7 @@ module _ (j : Judging) (f : Frame) where
           let a : end + 0 + 1 ≡ end + 1 = omega arith in
           sym
           (ap (λ (ls : List (List ℕ)). stretch j f end line ls g) (lines-at t end i)
-          ∙ rw z (rw a (onward-no-hit g (stretch j f (end + 1) (suc line) (lines (drop (end + 1) t))))))
+          ∙ rw z (rw a (onward-no-entry g (stretch j f (end + 1) (suc line) (lines (drop (end + 1) t))))))
       go false e =
           let i : length t ≤ end = ltb-false end (length t) e in
           rw (lines-past t (end + 1) (omega arith), lines-past t end i) refl
@@ -120,7 +120,7 @@ module _ (j : Judging) (f : Frame) where
       feed i = sym (getD-drop at t (lineLength (drop at t)) 0) ∙ feed-after (drop at t) (simp length-drop (omega arith))
 
   -- no line is left
-  pub stretch-end : (t : List ℕ) (at line : ℕ) (g : Progress) → length t ≤ at → stretch j f at line (lines (drop at t)) g ≡ endingWith g Stop.End
+  pub stretch-end : (t : List ℕ) (at line : ℕ) (g : Progress) → length t ≤ at → stretch j f at line (lines (drop at t)) g ≡ endingWith g Sequel.End
   unfolding stretch
   stretch-end t at line g h = rw (lines-past t at h) refl
 
@@ -128,8 +128,8 @@ module _ (j : Judging) (f : Frame) where
 
 -- whoever does what is left has done the whole, and it ends as the whole does
 pub record StretchLeads (job : Job) (l : Lent) (k : ℕ) (rest : Stretched) (l₀ : Lent) (k₀ : ℕ) (whole : Stretched) : Type 0 where
-  pub leads : Leads hitsMade job l k (rest .made) l₀ k₀ (whole .made)
-  pub stop : rest .stop ≡ whole .stop
+  pub leads : Leads entriesMade job l k (rest .made) l₀ k₀ (whole .made)
+  pub sequel : rest .sequel ≡ whole .sequel
 
 module _ {job : Job} {l₀ : Lent} {k₀ : ℕ} {whole : Stretched} where
   pub lead-as : {l : Lent} {k : ℕ} {rest rest' : Stretched} → rest' ≡ rest → StretchLeads job l k rest' l₀ k₀ whole → StretchLeads job l k rest l₀ k₀ whole
@@ -144,18 +144,18 @@ module _ {job : Job} {l₀ : Lent} {k₀ : ℕ} {whole : Stretched} where
 
   -- at the start all is left
   pub lead-start : {all : Stretched} → all ≡ whole → StretchLeads job l₀ k₀ all l₀ k₀ whole
-  lead-start w = record { leads = leads-start (ap (λ (s : Stretched). s .made) w); stop = ap (λ (s : Stretched). s .stop) w }
+  lead-start w = record { leads = leads-start (ap (λ (s : Stretched). s .made) w); sequel = ap (λ (s : Stretched). s .sequel) w }
 
   -- a direct block that passed
   pub lead-on :
-      {l mid : Lent} {k : ℕ} {now : Progress} {status : Status} (out : Out (Made Progress)) (rest : Progress → Stretched) → status ≡ Passed → Ran hitsMade job status now l mid k out
-      → StretchLeads job l k (onward (stepOf out) rest) l₀ k₀ whole → StretchLeads job mid (now .hits) (rest now) l₀ k₀ whole
+      {l mid : Lent} {k : ℕ} {now : Progress} {status : Status} (out : Out (Made Progress)) (rest : Progress → Stretched) → status ≡ Passed → Ran entriesMade job status now l mid k out
+      → StretchLeads job l k (onward (stepOf out) rest) l₀ k₀ whole → StretchLeads job mid (now .entries) (rest now) l₀ k₀ whole
   lead-on out rest e carried lead =
       let ran = rw e at carried in
       let d = passed-done out (ran .same-status) in
       record {
         leads = leads-on out (λ g. rest g .made) ran (leads-as (onward-made out rest) (lead .leads));
-        stop = ap (λ (g : Progress). rest g .stop) (ran .same-left (d .0) (d .1)) ∙ sym (onward-stop out (d .0) rest (d .1)) ∙ lead .stop;
+        sequel = ap (λ (g : Progress). rest g .sequel) (ran .same-left (d .0) (d .1)) ∙ sym (onward-sequel out (d .0) rest (d .1)) ∙ lead .sequel;
       }
 
 module _ (r : Stretch) (f : Frame) (before : Lent) (g : Progress) (what : Judging → Progress → Stretched) where
@@ -164,16 +164,16 @@ module _ (r : Stretch) (f : Frame) (before : Lent) (g : Progress) (what : Judgin
 
   -- a refusal ends it
   pub stretch-refused :
-      {l after : Lent} {k number line : ℕ} {left : Progress} {rest : Stretched} → r ≡ record { outcome = record { status = Refused number line; progress = left }; stop = Stop.End }
-      → rest ≡ refusedAt number line → StretchLeads (f .job) l k rest before (g .hits) whole → Stretches r f before after g what
+      {l after : Lent} {k number line : ℕ} {left : Progress} {rest : Stretched} → r ≡ record { outcome = record { status = Refused number line; progress = left }; sequel = Sequel.End }
+      → rest ≡ refusedAt number line → StretchLeads (f .job) l k rest before (g .entries) whole → Stretches r f before after g what
   stretch-refused {after = after} {number = number} {line} {left} e s lead =
       let lead' = rw s at lead in
-      rw e (record { ran = lead' .leads (Refused number line) left after ran-refused; stopped = lead' .stop })
+      rw e (record { ran = lead' .leads (Refused number line) left after ran-refused; same-sequel = lead' .sequel })
 
   -- so does the end of the text, or a block that is not direct
   pub stretch-ended :
-      {l : Lent} {now : Progress} {stop : Stop} {rest : Stretched} → r ≡ record { outcome = record { status = Passed; progress = now }; stop = stop }
-      → rest ≡ endingWith now stop → StretchLeads (f .job) l (now .hits) rest before (g .hits) whole → Stretches r f before l g what
+      {l : Lent} {now : Progress} {sequel : Sequel} {rest : Stretched} → r ≡ record { outcome = record { status = Passed; progress = now }; sequel = sequel }
+      → rest ≡ endingWith now sequel → StretchLeads (f .job) l (now .entries) rest before (g .entries) whole → Stretches r f before l g what
   stretch-ended {l} {now} e s lead =
       let lead' = rw s at lead in
-      rw e (record { ran = lead' .leads Passed now l ran-no-hit; stopped = lead' .stop })
+      rw e (record { ran = lead' .leads Passed now l ran-no-entry; same-sequel = lead' .sequel })

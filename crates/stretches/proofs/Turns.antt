@@ -30,7 +30,7 @@ use Rattle.text.specs.Lines.{lineLength, lineAt, lineEnd}
 use Rattle.text.proofs.Lines.{line-goes-on}
 use Rattle.decode.specs.Decoding.{decodedAt}
 use Rattle.decode.proofs.Decoding.{decoded-instruction, decoded-refused}
-use Rattle.stretches.specs.Stretches.{Stretched, refusedAt, endingWith, stepOf, stopAt, blockStep, begunStep, onward, stretch}
+use Rattle.stretches.specs.Stretches.{Stretched, refusedAt, endingWith, stepOf, sequelAt, blockStep, begunStep, onward, stretch}
 use Rattle.aries.proofs.Calls.{begin-spent, begin-refused, begin-done}
 use Rattle.stretches.proofs.Stretches.{stretch-block}
 
@@ -96,10 +96,10 @@ module _ (job : Job) (f : Frame) (t : List ℕ) (at line : ℕ) (g : Progress) (
       turn-direct d q = found (Block.Direct d) q
 
       -- a block that is not direct
-      pub turn-stop : OneOf indirectTags (tagOf the-type (i .block)) → here ≡ endingWith begins (stopAt (i .block) end line)
-      turn-stop q = found (i .block) refl ∙ go (i .block) q
+      pub turn-sequel : OneOf indirectTags (tagOf the-type (i .block)) → here ≡ endingWith begins (sequelAt (i .block) end line)
+      turn-sequel q = found (i .block) refl ∙ go (i .block) q
         where
-          go : (b : Block) → OneOf indirectTags (tagOf the-type b) → onward (blockStep (limits job) f end line b begins) (stretch (limits job) f end line (lines (drop end t))) ≡ endingWith begins (stopAt b end line)
+          go : (b : Block) → OneOf indirectTags (tagOf the-type b) → onward (blockStep (limits job) f end line b begins) (stretch (limits job) f end line (lines (drop end t))) ≡ endingWith begins (sequelAt b end line)
           go (Block.Direct d) q = absurd (miss indirectTags (tagOf the-type (Block.Direct d)) tt q)
           go (Block.Call n) q = refl
           go (Block.Outside o) q = refl

@@ -1,7 +1,7 @@
 -- Direct blocks that run a pattern, and plain ones, which leave the pattern memories as they are.
 use mathlib.Core.Bool.{Bool, true, false}
 use Rattle.aries.specs.declared.block.Direct.{Direct}
-use Rattle.aries.specs.declared.block.Direct.the-variants.{Lone, Punch, Move, PatternOrigin, RunPattern, Recall, Nibble, Idle}
+use Rattle.aries.specs.declared.block.Direct.the-variants.{Lone, Punch, Move, PatternOrigin, RunPattern, Recall, Nibble, Idle, Stop}
 use Rattle.aries.specs.declared.state.Progress.{Progress}
 
 abbrev pub isPattern : Direct → Bool
@@ -13,6 +13,7 @@ isPattern (Move a tool) = false
 isPattern (PatternOrigin a) = false
 isPattern (Nibble on) = false
 isPattern Idle = false
+isPattern (Stop optional) = false
 
 -- what is left, with the pattern memories of the progress before
 abbrev pub keeping : Progress → Progress → Progress
@@ -28,5 +29,5 @@ keeping before left =
             memories = before .state .memories;
           };
       blocks = left .blocks;
-      hits = left .hits;
+      entries = left .entries;
     }

@@ -11,24 +11,24 @@ use Rattle.aries.specs.declared.block.Block.the-variants as Block
 use Rattle.aries.specs.declared.state.Frame.{Frame}
 use Rattle.aries.specs.declared.state.Progress.{Progress}
 use Rattle.aries.specs.Outcome.{Out, done, refused}
-use Rattle.aries.specs.Hits.{Made, noHit, adding}
+use Rattle.aries.specs.Entries.{Made, noEntry, adding}
 use Rattle.aries.specs.Judging.{Judging, limits}
 use Rattle.aries.specs.Macros.{carryDirect, Begun, begin}
-use Rattle.aries.specs.Runs.{Lent, Ran, hitsMade}
-use Rattle.stretches.specs.declared.Stop.{Stop}
-use Rattle.stretches.specs.declared.Stop.the-variants as Stop
+use Rattle.aries.specs.Runs.{Lent, Ran, entriesMade}
+use Rattle.stretches.specs.declared.Sequel.{Sequel}
+use Rattle.stretches.specs.declared.Sequel.the-variants as Sequel
 use Rattle.stretches.specs.declared.Stretch.{Stretch}
 
--- what a stretch makes, and why it ends; after a refusal there is no more to say of the end
+-- what a stretch makes, and what comes after it: after a refusal, nothing
 pub record Stretched : Type 0 where
   pub made : Out (Made Progress)
-  pub stop : Stop
+  pub sequel : Sequel
 
 abbrev pub refusedAt : ℕ → ℕ → Stretched
-refusedAt number line = record { made = refused number line; stop = Stop.End }
+refusedAt number line = record { made = refused number line; sequel = Sequel.End }
 
-abbrev pub endingWith : Progress → Stop → Stretched
-endingWith g stop = record { made = noHit g; stop = stop }
+abbrev pub endingWith : Progress → Sequel → Stretched
+endingWith g sequel = record { made = noEntry g; sequel = sequel }
 
 -- what one line comes to: the stretch goes on past it, or ends
 pub data Step : Type 0 where
@@ -40,17 +40,17 @@ abbrev pub stepOf : Out (Made Progress) → Step
 stepOf (done m) = goes m
 stepOf (refused number line) = ends (refusedAt number line)
 
--- why it ends at a block, in a line that ends at a place; at a direct one it does not
-abbrev pub stopAt : Block → ℕ → ℕ → Stop
-stopAt (Block.Direct d) end line = Stop.End
-stopAt (Block.Call n) end line = Stop.Call n end line
-stopAt (Block.Outside o) end line = Stop.Outside o end line
+-- what comes after it at a block, in a line that ends at a place; at a direct one it does not end
+abbrev pub sequelAt : Block → ℕ → ℕ → Sequel
+sequelAt (Block.Direct d) end line = Sequel.End
+sequelAt (Block.Call n) end line = Sequel.Call n end line
+sequelAt (Block.Outside o) end line = Sequel.Outside o end line
 
 -- a block that has begun, in a line that ends at a place
 abbrev pub blockStep : Judging → Frame → ℕ → ℕ → Block → Progress → Step
 blockStep j f end line (Block.Direct d) g = stepOf (carryDirect j f line d g)
-blockStep j f end line (Block.Call n) g = ends (endingWith g (Stop.Call n end line))
-blockStep j f end line (Block.Outside o) g = ends (endingWith g (Stop.Outside o end line))
+blockStep j f end line (Block.Call n) g = ends (endingWith g (Sequel.Call n end line))
+blockStep j f end line (Block.Outside o) g = ends (endingWith g (Sequel.Outside o end line))
 
 abbrev pub begunStep : Judging → Frame → ℕ → ℕ → Out Begun → Step
 begunStep j f end line (refused number at) = ends (refusedAt number at)
@@ -58,30 +58,30 @@ begunStep j f end line (done b) = blockStep j f end line (b .block) (b .progress
 
 -- a line, by the place where it ends; a blank one does nothing
 abbrev pub lineStep : Judging → Frame → ℕ → ℕ → List ℕ → Progress → Step
-lineStep j f end line [] g = goes (record { hits = []; after = g })
+lineStep j f end line [] g = goes (record { entries = []; after = g })
 lineStep j f end line (b ∷ bs) g = begunStep j f end line (begin j f line (b ∷ bs) g)
 
 -- one step, and what follows it
 abbrev pub onward : Step → (Progress → Stretched) → Stretched
 onward (ends s) rest = s
-onward (goes m) rest = record { made = adding (m .hits) (rest (m .after) .made); stop = rest (m .after) .stop }
+onward (goes m) rest = record { made = adding (m .entries) (rest (m .after) .made); sequel = rest (m .after) .sequel }
 
 -- the lines from a place of the text on, the first with a number, as far as their blocks are direct
 unfoldable pub stretch : Judging → Frame → ℕ → ℕ → List (List ℕ) → Progress → Stretched
-stretch j f at line [] g = endingWith g Stop.End
+stretch j f at line [] g = endingWith g Sequel.End
 stretch j f at line (l ∷ ls) g = onward (lineStep j f (at + length l) line l g) (stretch j f (at + length l + 1) (suc line) ls)
 
 -- nothing follows a stretch
-abbrev pub isEnd : Stop → Bool
-isEnd Stop.End = true
-isEnd (Stop.Call n end line) = false
-isEnd (Stop.Outside o end line) = false
+abbrev pub isEnd : Sequel → Bool
+isEnd Sequel.End = true
+isEnd (Sequel.Call n end line) = false
+isEnd (Sequel.Outside o end line) = false
 
 -- the numbers of the lines from a place on, the first of which is given, fit 64 bits
 abbrev pub LinesFit : ℕ → ℕ → List ℕ → Type 0
 LinesFit first from t = first + (length t - from) < 18446744073709551616
 
--- A stretch that was carried out, against the definition: what it made, and why it ended.
+-- A stretch that was carried out, against the definition: what it made, and what comes after it.
 pub record Stretches (r : Stretch) (f : Frame) (before after : Lent) (g : Progress) (what : Judging → Progress → Stretched) : Type 0 where
-  pub ran : Ran hitsMade (f .job) (r .outcome .status) (r .outcome .progress) before after (g .hits) (what (limits (f .job)) g .made)
-  pub stopped : r .stop ≡ what (limits (f .job)) g .stop
+  pub ran : Ran entriesMade (f .job) (r .outcome .status) (r .outcome .progress) before after (g .entries) (what (limits (f .job)) g .made)
+  pub same-sequel : r .sequel ≡ what (limits (f .job)) g .sequel

@@ -59,7 +59,7 @@ fn keeping(before: Progress, left: Progress) -> Progress
             tool: state.tool,
         },
         blocks: left.blocks,
-        hits: left.hits,
+        entries: left.entries,
     }
 }
 
@@ -82,6 +82,7 @@ fn plain_outcome(
         Direct::PatternOrigin(axes) => {
             press::moves::set_pattern_origin(frame, line, axes, progress)
         }
+        Direct::Stop(optional) => press::entries::stop(list, frame, line, optional, progress),
         Direct::Lone => {
             let state = progress.state;
             Outcome::passed(progress.with_state(state.dropping()))

@@ -16,9 +16,9 @@ ghost use Rattle.aries.specs.declared.state.Status.the-variants.{Passed, Refuse
 ghost use Rattle.aries.specs.Reader.{readerOf};
 ghost use Rattle.aries.specs.Runs.{lent};
 ghost use Rattle.aries.specs.Text.{lines};
-ghost use Rattle.stretches.specs.declared.Stop.the-variants.{End};
+ghost use Rattle.stretches.specs.declared.Sequel.the-variants.{End};
 ghost use Rattle.stretches.specs.Lookahead.{ahead};
-ghost use Rattle.stretches.specs.Stretches.{stretch, stopAt, isEnd, LinesFit, Stretches};
+ghost use Rattle.stretches.specs.Stretches.{stretch, sequelAt, isEnd, LinesFit, Stretches};
 
 pub mod direct; // one direct block
 
@@ -28,23 +28,23 @@ pub const MOST_BLOCKS: u32 = 100_000;
 // The first byte of V lines, which are not counted.
 const LETTER_V: u8 = b'V';
 
-// Why a stretch ends: the text is at its end or a block was refused; or a block is met that is not direct, with the place
+// What comes after a stretch: nothing, at the end of the text or at a refusal; or a block that is not direct, with the place
 // where its line ends and the number of that line.
-pub enum Stop {
+pub enum Sequel {
     End,
     Call(u8, usize, u64),
     Outside(Outside, usize, u64),
 }
 
-impl Stop {
-    // At a block that is not direct, in a line that ends at a place and has a number.
-    fn at(block: Block, end: usize, line: u64) -> Stop
-        ensures { λ r. ⌜ r ≡ stopAt block end line ⌝ }
+impl Sequel {
+    // A block that is not direct, in a line that ends at a place and has a number.
+    fn at(block: Block, end: usize, line: u64) -> Sequel
+        ensures { λ r. ⌜ r ≡ sequelAt block end line ⌝ }
     {
         match block {
-            Block::Direct(_) => Stop::End,
-            Block::Call(number) => Stop::Call(number, end, line),
-            Block::Outside(outside) => Stop::Outside(outside, end, line),
+            Block::Direct(_) => Sequel::End,
+            Block::Call(number) => Sequel::Call(number, end, line),
+            Block::Outside(outside) => Sequel::Outside(outside, end, line),
         }
     }
 
@@ -53,43 +53,43 @@ impl Stop {
         ensures { λ r. ⌜ r ≡ isEnd self ⌝ }
     {
         match self {
-            Stop::End => true,
-            Stop::Call(_, _, _) => false,
-            Stop::Outside(_, _, _) => false,
+            Sequel::End => true,
+            Sequel::Call(_, _, _) => false,
+            Sequel::Outside(_, _, _) => false,
         }
     }
 }
 
-// What a stretch leaves. The block that it ended at has begun. After a refusal the progress is of no account.
+// What a stretch leaves. A block that comes after it has begun. After a refusal the progress is of no account.
 pub struct Stretch {
     pub outcome: Outcome,
-    pub stop: Stop,
+    pub sequel: Sequel,
 }
 
 impl Stretch {
     // All went well up to the end.
-    fn passed(progress: Progress, stop: Stop) -> Stretch
-        ensures { λ r. ⌜ r ≡ record { outcome = record { status = Passed; progress = progress }; stop = stop } ⌝ }
+    fn passed(progress: Progress, sequel: Sequel) -> Stretch
+        ensures { λ r. ⌜ r ≡ record { outcome = record { status = Passed; progress = progress }; sequel = sequel } ⌝ }
     {
         Stretch {
             outcome: Outcome {
                 status: Status::Passed,
                 progress,
             },
-            stop,
+            sequel,
         }
     }
 
     // A refusal, at a line.
     fn refused(number: u8, line: u64, progress: Progress) -> Stretch
-        ensures { λ r. ⌜ r ≡ record { outcome = record { status = Refused number line; progress = progress }; stop = End } ⌝ }
+        ensures { λ r. ⌜ r ≡ record { outcome = record { status = Refused number line; progress = progress }; sequel = End } ⌝ }
     {
         Stretch {
             outcome: Outcome {
                 status: Status::Refused(number, line),
                 progress,
             },
-            stop: Stop::End,
+            sequel: Sequel::End,
         }
     }
 }
@@ -136,7 +136,7 @@ pub fn run_stretch(
     let mut next = start;
     loop {
         let Ahead::Block(place, number, decoded) = next else {
-            return Stretch::passed(now, Stop::End);
+            return Stretch::passed(now, Sequel::End);
         };
         let counted = text[place] != LETTER_V;
         if counted & (MOST_BLOCKS <= now.blocks) {
@@ -151,7 +151,7 @@ pub fn run_stretch(
                 let block = instruction.block;
                 let begun = now.begun(counted, measure);
                 let Block::Direct(direct) = block else {
-                    return Stretch::passed(begun, Stop::at(block, end, number));
+                    return Stretch::passed(begun, Sequel::at(block, end, number));
                 };
                 // apart, so that what a plain block leaves is not put down as a whole
                 if is_pattern(direct) {

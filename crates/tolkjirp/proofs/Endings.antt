@@ -17,11 +17,12 @@ use Rattle.aries.specs.declared.state.Status.{Status}
 use Rattle.aries.specs.declared.state.Status.the-variants.{Passed, Refused}
 use Rattle.aries.specs.Outcome.{Out, done, refused}
 use Rattle.aries.specs.Text.{longest, lines, strayLine, withoutSpaces}
-use Rattle.aries.specs.Hits.{Hit, Made}
+use Rattle.aries.specs.declared.entry.Entry.{Entry}
+use Rattle.aries.specs.Entries.{Made}
 use Rattle.aries.specs.Reader.{settingOf}
 use Rattle.aries.specs.Judging.{lending, limits}
 use Rattle.aries.specs.Program.{freshProgram, isEnded, runFrom, perform, expand, listOf}
-use Rattle.aries.specs.Runs.{Lent, lent, hitsOfProgram, Ran}
+use Rattle.aries.specs.Runs.{Lent, lent, entriesOfProgram, Ran}
 use Rattle.aries.proofs.Runs.{Done, passed-done, refused-out}
 use Rattle.text.specs.declared.Cleaned.the-variants.{Stray, Dense}
 use Rattle.text.specs.Cleaning.{cleaned}
@@ -33,13 +34,13 @@ use Rattle.tolkjirp.proofs.Lists.{cleared, cleared-past}
 
 -- a refusal, with the list cleared
 pub answers-refused :
-    {answer : Answer} {list : List ℤ} {number line : ℕ} {out : Out (List Hit)} (numbers : ℕ) → answer ≡ Answer.Refused number line
+    {answer : Answer} {list : List ℤ} {number line : ℕ} {out : Out (List Entry)} (numbers : ℕ) → answer ≡ Answer.Refused number line
     → list ≡ replicate numbers (pos 0) → out ≡ refused number line → Answers answer list numbers out
 unfolding listOf
 answers-refused numbers a l o = rw o (record { answered = a; listed = l })
 
 -- an answer to one outcome, where another is the same
-pub answers-as : {answer : Answer} {list : List ℤ} {numbers : ℕ} {out other : Out (List Hit)} → out ≡ other → Answers answer list numbers out → Answers answer list numbers other
+pub answers-as : {answer : Answer} {list : List ℤ} {numbers : ℕ} {out other : Out (List Entry)} → out ≡ other → Answers answer list numbers out → Answers answer list numbers other
 answers-as e a = rw e at a
 
 -- ---- The ways out of a performance
@@ -51,7 +52,7 @@ module _ (setting : Setting) (list after : List ℤ) (text : List ℕ) (last : �
   abbrev run : Out (Made Program)
   run = runFrom (limits job) text 0 1 (lines text) (freshProgram job)
 
-  module _ {left : Program} {status : Status} (ran : Ran hitsOfProgram job status left (lent list) (lent after) 0 run) where
+  module _ {left : Program} {status : Status} (ran : Ran entriesOfProgram job status left (lent list) (lent after) 0 run) where
     -- what was refused on the way
     pub perform-refused : {number line : ℕ} → status ≡ Refused number line → perform job text last ≡ refused number line
     unfolding perform
@@ -64,34 +65,34 @@ module _ (setting : Setting) (list after : List ℤ) (text : List ℕ) (last : �
       stage-is : left .stage ≡ made .0 .after .stage
       stage-is = ap (λ (p : Program). p .stage) (ran .same-left (made .0) (made .1))
 
-      -- the hits have places
-      pub hits-fit : left .progress .hits ≤ length list / 4
-      hits-fit = ran .fitted (made .0) (made .1) (omega arith)
+      -- the entries have places
+      pub entries-fit : left .progress .entries ≤ length list / 4
+      entries-fit = ran .fitted (made .0) (made .1) (omega arith)
 
       -- no G50
       pub perform-open : isEnded (left .stage) ≡ false → perform job text last ≡ refused 7 last
       unfolding perform
       perform-open e = let f : isEnded (made .0 .after .stage) ≡ false = rw stage-is at e in simp (made .1, f)
 
-      -- the hits, with the rest of the list cleared
-      pub perform-hits :
-          (final : List ℤ) → isEnded (left .stage) ≡ true → length after ≡ length list → final ≡ cleared after (left .progress .hits * 4)
-          → Answers (Answer.Hits (left .progress .hits)) final (length list) (perform job text last)
+      -- the entries, with the rest of the list cleared
+      pub perform-entries :
+          (final : List ℤ) → isEnded (left .stage) ≡ true → length after ≡ length list → final ≡ cleared after (left .progress .entries * 4)
+          → Answers (Answer.Entries (left .progress .entries)) final (length list) (perform job text last)
       unfolding perform listOf
-      perform-hits final e n l =
+      perform-entries final e n l =
           let m = made .0 in
           let f : isEnded (m .after .stage) ≡ true = rw stage-is at e in
-          let o : perform job text last ≡ done (m .hits) = simp (made .1, f) in
-          let c : left .progress .hits ≡ length (m .hits) = omega (arith, ran .counted m (made .1)) in
-          let fit : length (m .hits) ≤ length list / 4 = omega (arith, hits-fit) in
+          let o : perform job text last ≡ done (m .entries) = simp (made .1, f) in
+          let c : left .progress .entries ≡ length (m .entries) = omega (arith, ran .counted m (made .1)) in
+          let fit : length (m .entries) ≤ length list / 4 = omega (arith, entries-fit) in
           rw o (record {
-            answered = ap Answer.Hits c;
+            answered = ap Answer.Entries c;
             listed =
                 l
                 ∙ ap (λ (k : ℕ). cleared after (k * 4)) c
-                ∙ ap (λ (k : ℕ). take (length (m .hits) * 4) after ++ replicate (k - length (m .hits) * 4) (pos 0)) n
-                ∙ ap (λ (r : Lent). take (length (m .hits) * 4) (r .list) ++ replicate (length list - length (m .hits) * 4) (pos 0)) (ran .written m (made .1))
-                ∙ cleared-past list (m .hits) fit;
+                ∙ ap (λ (k : ℕ). take (length (m .entries) * 4) after ++ replicate (k - length (m .entries) * 4) (pos 0)) n
+                ∙ ap (λ (r : Lent). take (length (m .entries) * 4) (r .list) ++ replicate (length list - length (m .entries) * 4) (pos 0)) (ran .written m (made .1))
+                ∙ cleared-past list (m .entries) fit;
           })
 
 -- ---- The ways out of an expansion

@@ -1,4 +1,4 @@
--- The lent list: hits put from its start, and what is cleared past them.
+-- The lent list: entries put from its start, and what is cleared past them.
 use mathlib.Core.Path.{_≡_, refl, sym, ap, _∙_}
 use mathlib.Core.List.{List, [], _∷_, _++_, append-nil}
 use Prim.Native.Nat.{ℕ, suc, _+_, _-_, _*_, _/_, _<_, _≤_}
@@ -7,49 +7,50 @@ use native.Mathlib.Numerals.{add-one}
 use lib.IntN.{ℤ, pos}
 use lib.ListN.{length, take, drop, set, replicate, length-set}
 use lib.Seq.{sets, sets-eq, append-snoc, take-at, take-all, take-suc-set}
-use Rattle.aries.specs.Hits.{Hit, cells}
+use Rattle.aries.specs.declared.entry.Entry.{Entry}
+use Rattle.aries.specs.Entries.{cells}
 use Rattle.aries.specs.Runs.{Lent, lent, put, over}
 use Rattle.aries.proofs.Runs.{length-put, put-inside}
 
--- ---- Hits
+-- ---- Entries
 
--- four numbers a hit
-pub length-cells : (hs : List Hit) → length (cells hs) ≡ 4 * length hs
+-- four numbers an entry
+pub length-cells : (es : List Entry) → length (cells es) ≡ 4 * length es
 unfolding cells
 length-cells [] = refl
-length-cells (h ∷ hs) = let e = length-cells hs in omega arith
+length-cells (a ∷ es) = let e = length-cells es in omega arith
 
--- hits that all have places are their numbers written one by one
-over-sets : (l : Lent) (k : ℕ) (hs : List Hit) → k + length hs ≤ length (l .list) / 4 → over l k hs .list ≡ sets (l .list) (4 * k) (cells hs)
+-- entries that all have places are their numbers written one by one
+over-sets : (l : Lent) (k : ℕ) (es : List Entry) → k + length es ≤ length (l .list) / 4 → over l k es .list ≡ sets (l .list) (4 * k) (cells es)
 unfolding over cells
 over-sets l k [] fit = refl
-over-sets l k (h ∷ hs) fit =
-    let n = length-put l k h in
+over-sets l k (a ∷ es) fit =
+    let n = length-put l k a in
     let i : k < length (l .list) / 4 = omega arith in
     let e : 4 * (k + 1) ≡ suc (suc (suc (suc (4 * k)))) = omega arith in
-    let a : 4 * k + 1 ≡ suc (4 * k) = omega arith in
+    let d : 4 * k + 1 ≡ suc (4 * k) = omega arith in
     let b : 4 * k + 2 ≡ suc (suc (4 * k)) = omega arith in
     let c : 4 * k + 3 ≡ suc (suc (suc (4 * k))) = omega arith in
-    over-sets (put l k h) (k + 1) hs (omega arith) ∙ ap (λ (r : Lent). sets (r .list) (4 * (k + 1)) (cells hs)) (put-inside l k h i) ∙ rw (e, a, b, c)
+    over-sets (put l k a) (k + 1) es (omega arith) ∙ ap (λ (r : Lent). sets (r .list) (4 * (k + 1)) (cells es)) (put-inside l k a i) ∙ rw (e, d, b, c)
 
 -- from the start of the list they are its first numbers, and the rest stays
-over-start : (l : List ℤ) (hs : List Hit) → length hs ≤ length l / 4 → over (lent l) 0 hs .list ≡ cells hs ++ drop (4 * length hs) l
-over-start l hs fit =
-    let n = length-cells hs in
-    let i : 0 + length (cells hs) ≤ length l = omega arith in
-    let e : 0 + length (cells hs) ≡ 4 * length hs = omega arith in
-    over-sets (lent l) 0 hs (omega arith) ∙ sets-eq (cells hs) l 0 i ∙ ap (λ (k : ℕ). cells hs ++ drop k l) e
+over-start : (l : List ℤ) (es : List Entry) → length es ≤ length l / 4 → over (lent l) 0 es .list ≡ cells es ++ drop (4 * length es) l
+over-start l es fit =
+    let n = length-cells es in
+    let i : 0 + length (cells es) ≤ length l = omega arith in
+    let e : 0 + length (cells es) ≡ 4 * length es = omega arith in
+    over-sets (lent l) 0 es (omega arith) ∙ sets-eq (cells es) l 0 i ∙ ap (λ (k : ℕ). cells es ++ drop k l) e
 
--- cleared past the hits
+-- cleared past the entries
 pub cleared-past :
-    (l : List ℤ) (hs : List Hit) → length hs ≤ length l / 4
-    → take (length hs * 4) (over (lent l) 0 hs .list) ++ replicate (length l - length hs * 4) (pos 0) ≡ cells hs ++ replicate (length l - length (cells hs)) (pos 0)
-cleared-past l hs fit =
-    let n = length-cells hs in
-    let e : length (cells hs) ≡ length hs * 4 = omega arith in
-    ap (λ (r : List ℤ). take (length hs * 4) r ++ replicate (length l - length hs * 4) (pos 0)) (over-start l hs fit)
-    ∙ ap (λ (r : List ℤ). r ++ replicate (length l - length hs * 4) (pos 0)) (take-at (cells hs) (drop (4 * length hs) l) (length hs * 4) e)
-    ∙ ap (λ (k : ℕ). cells hs ++ replicate (length l - k) (pos 0)) (sym e)
+    (l : List ℤ) (es : List Entry) → length es ≤ length l / 4
+    → take (length es * 4) (over (lent l) 0 es .list) ++ replicate (length l - length es * 4) (pos 0) ≡ cells es ++ replicate (length l - length (cells es)) (pos 0)
+cleared-past l es fit =
+    let n = length-cells es in
+    let e : length (cells es) ≡ length es * 4 = omega arith in
+    ap (λ (r : List ℤ). take (length es * 4) r ++ replicate (length l - length es * 4) (pos 0)) (over-start l es fit)
+    ∙ ap (λ (r : List ℤ). r ++ replicate (length l - length es * 4) (pos 0)) (take-at (cells es) (drop (4 * length es) l) (length es * 4) e)
+    ∙ ap (λ (k : ℕ). cells es ++ replicate (length l - k) (pos 0)) (sym e)
 
 -- ---- Clearing, one number after the other
 

@@ -5,10 +5,10 @@ use Prim.Native.Nat.{ℕ}
 use lib.IntN.{ℤ}
 use Rattle.aries.specs.declared.answer.Answer.{Answer}
 use Rattle.aries.specs.Outcome.{Out}
-use Rattle.aries.specs.Hits.{Hit}
+use Rattle.aries.specs.declared.entry.Entry.{Entry}
 use Rattle.aries.specs.Program.{answerOf, listOf}
 
--- The answer and the list of so many numbers are those of the hits, or of the refusal.
-pub record Answers (answer : Answer) (list : List ℤ) (numbers : ℕ) (out : Out (List Hit)) : Type 0 where
+-- The answer and the list of so many numbers are those of the entries, or of the refusal.
+pub record Answers (answer : Answer) (list : List ℤ) (numbers : ℕ) (out : Out (List Entry)) : Type 0 where
   pub answered : answer ≡ answerOf out
   pub listed : list ≡ listOf numbers out

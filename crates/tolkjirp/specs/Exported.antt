@@ -5,14 +5,14 @@ use Prim.Native.Nat.{ℕ}
 use lib.IntN.{ℤ}
 use Rattle.aries.specs.declared.answer.Answer.{Answer}
 use Rattle.aries.specs.Outcome.{Out}
-use Rattle.aries.specs.Hits.{Hit}
+use Rattle.aries.specs.declared.entry.Entry.{Entry}
 use Rattle.aries.specs.Program.{answerOf, numberOf, countOf, lineOf, listOf}
 
--- the refusal's number or 0, the count of hits, the refusal's line
+-- the refusal's number or 0, the count of entries, the refusal's line
 abbrev pub threeNumbers : Answer → List ℕ
 threeNumbers a = numberOf a ∷ countOf a ∷ lineOf a ∷ []
 
--- The numbers and the list are those of the hits, or of the refusal.
-pub record Exported (answer : List ℕ) (list : List ℤ) (numbers : ℕ) (out : Out (List Hit)) : Type 0 where
+-- The numbers and the list are those of the entries, or of the refusal.
+pub record Exported (answer : List ℕ) (list : List ℤ) (numbers : ℕ) (out : Out (List Entry)) : Type 0 where
   pub answered : answer ≡ threeNumbers (answerOf out)
   pub listed : list ≡ listOf numbers out

@@ -1,23 +1,23 @@
-// The entry for programs in C or Rust: the answer is given as three numbers.
+// The function for programs in C or Rust: the answer is given as three numbers.
 use aries::answer::Answer;
 ghost use mathlib.Core.Path.{_≡_};
 ghost use lib.ListN.{length};
 ghost use Rattle.aries.specs.Program.{expand};
 ghost use Rattle.tolkjirp.specs.Exported.{threeNumbers, Exported};
 
-// An answer as three numbers: the refusal's number or 0, the count of hits, the refusal's line.
+// An answer as three numbers: the refusal's number or 0, the count of entries, the refusal's line.
 fn three_numbers(answer: Answer) -> [u64; 3]
     ensures { λ r. ⌜ r ≡ threeNumbers answer ⌝ }
 {
     match answer {
-        Answer::Hits(count) => [0, count as u64, 0],
+        Answer::Entries(count) => [0, count as u64, 0],
         Answer::Refused(number, line) => [number as u64, 0, line],
     }
 }
 
-// Expands a program text, at the decimal point setting that a number states, into a lent list, four numbers a hit: X, Y, tool
-// and mode. What the hits leave of the list is zero, and after a refusal all of it. The answer takes the refusal's number or
-// 0, the count of hits, the refusal's line.
+// Expands a program text, at the decimal point setting that a number states, into a lent list, four numbers an entry: X, Y,
+// tool and mode. What the entries leave of the list is zero, and after a refusal all of it. The answer takes the refusal's
+// number or 0, the count of entries, the refusal's line.
 #[no_mangle]
 pub extern "C" fn tolkjirp_expand(
     setting: i32,

@@ -1,5 +1,5 @@
-// The expander of ARIES punch code: from a program text to its list of hits.
-pub mod exported; // the entry for C and Rust
+// The expander of ARIES punch code: from a program text to its list of entries, hits and stops.
+pub mod exported; // the function for C and Rust
 
 use aries::answer::Answer;
 use aries::job::Job;
@@ -77,9 +77,9 @@ fn perform(setting: Setting, list: &mut [i32], text: &[u8], whole: &[u8]) -> Ans
     if !is_ended(stage) {
         return refuse(list, refusal::OUT_OF_PLACE, text::count_lines(whole));
     }
-    let hits = left.progress.hits;
-    clear_from(list, hits * NUMBERS);
-    Answer::Hits(hits)
+    let entries = left.progress.entries;
+    clear_from(list, entries * NUMBERS);
+    Answer::Entries(entries)
 }
 
 // A text of a length that is allowed, by way of a buffer for its bytes other than spaces.
@@ -122,7 +122,7 @@ fn expand_long(setting: Setting, text: &[u8], list: &mut [i32]) -> Answer
 }
 
 // Expands a program text, at the decimal point setting that a number states, 0 or any other for 1, into a lent list, four
-// numbers a hit: X, Y, tool and mode. What the hits leave of the list is zero, and after a refusal all of it.
+// numbers an entry: X, Y, tool and mode. What the entries leave of the list is zero, and after a refusal all of it.
 pub fn expand(setting: i32, text: &[u8], list: &mut [i32]) -> Answer
     ensures { λ r. ⌜ Answers r (now (list .exit)) (length (now (list .entry))) (expand setting (now (text .entry)) (length (now (list .entry)))) ⌝ }
 {

@@ -14,7 +14,7 @@ use Rattle.aries.specs.declared.block.Measure.the-variants.{Unchanged, Absolute
 use Rattle.aries.specs.Letters.{letterA, letterG, letterN}
 use Rattle.aries.specs.Test.{among, isEmpty, isSome}
 use Rattle.aries.specs.Words.{LetterWord}
-use Rattle.aries.specs.ByLetter.{isEntry, lookup, measures, patternCodes, isPlain, codeOf, isMeasure, has, added, byLetter}
+use Rattle.aries.specs.ByLetter.{hasRow, lookup, measures, patternCodes, isPlain, codeOf, isMeasure, has, added, byLetter}
 use Rattle.aries.specs.Forms.{isPatternCode, isUnchanged, isG91, inPlace, inPlaces}
 use Rattle.signed.proofs.Tests.{and-right}
 use Rattle.words.specs.declared.Summary.{Summary}
@@ -77,7 +77,7 @@ not-and false b = refl
 
 -- G90 and G91 as marks
 measure-marks :
-    (n : ℕ) → isEntry measures n ≡ true
+    (n : ℕ) → hasRow measures n ≡ true
     → (isUnchanged (lookup measures n Unchanged) ≡ false) × (isG91 (lookup measures n Unchanged) ≡ eqb n 91)
 measure-marks n e = go (eqb n 90) (eqb n 91) refl refl
   where
@@ -110,7 +110,7 @@ other-out false true true = refl
 other-out false true false = refl
 other-out false false p = refl
 
-pattern-code : (o : Option ℕ) → (isSome o && isEntry patternCodes (Option·getD o 0)) ≡ isPatternCode o
+pattern-code : (o : Option ℕ) → (isSome o && hasRow patternCodes (Option·getD o 0)) ≡ isPatternCode o
 pattern-code none = refl
 pattern-code (some n) = refl
 
@@ -127,7 +127,7 @@ module _ (formed : Bool) (end : ℕ) (ws : List LetterWord) (r : LetterWord) (s 
     where
       go : (m : Bool) → isMeasure (r .word) ≡ m → withG (summaryOf formed end ws) (r .word) ≡ after
       go true f =
-          let m = measure-marks (codeOf (r .word)) (and-right (isPlain (r .word)) (isEntry measures (codeOf (r .word))) f) in
+          let m = measure-marks (codeOf (r .word)) (and-right (isPlain (r .word)) (hasRow measures (codeOf (r .word))) f) in
           simp (word-more, not-and (inPlaces ws), e, f, m .0, m .1)
       go false f =
           simp (word-more, not-and (inPlaces ws), e, f, code-out (isPlain (r .word)) (isSome (byLetter ws .code)))

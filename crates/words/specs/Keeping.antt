@@ -12,7 +12,7 @@ use Rattle.aries.specs.declared.block.Measure.the-variants.{Unchanged, Absolute
 use Rattle.aries.specs.Letters.{letterA, letterG, letterN}
 use Rattle.aries.specs.Test.{among, isEmpty, isSome}
 use Rattle.aries.specs.Words.{LetterWord}
-use Rattle.aries.specs.ByLetter.{Letters, Words, isEntry, patternCodes, isPlain, codeOf, isMeasure, byLetter}
+use Rattle.aries.specs.ByLetter.{Letters, Words, hasRow, patternCodes, isPlain, codeOf, isMeasure, byLetter}
 use Rattle.aries.specs.Forms.{isUnchanged, isG91, inPlaces}
 use Rattle.words.specs.declared.Summary.{Summary}
 
@@ -133,7 +133,7 @@ withOther s letter before =
       code = s .code;
       read = s .read;
       incremental = s .incremental;
-      misplaced = s .misplaced || (before || (eqb letter letterA && (s .coded && isEntry patternCodes (s .code))));
+      misplaced = s .misplaced || (before || (eqb letter letterA && (s .coded && hasRow patternCodes (s .code))));
     }
 
 -- with a letter other than G

@@ -9,7 +9,7 @@ ghost use Rattle.aries.specs.Test.{within};
 ghost use Rattle.aries.specs.Letters.{letterA};
 ghost use Rattle.aries.specs.Text.{isCapital, isDigit};
 ghost use Rattle.aries.specs.Words.{digits, isSign, word};
-ghost use Rattle.aries.specs.ByLetter.{isEntry, patternCodes, measures, isPlain};
+ghost use Rattle.aries.specs.ByLetter.{hasRow, patternCodes, measures, isPlain};
 ghost use Rattle.text.specs.Lines.{lineLength};
 ghost use Rattle.words.specs.Gathering.{firstLine, Gathers};
 ghost use Rattle.words.specs.Keeping.{wordIn, formMark, withG, withNumber, withLetter};
@@ -224,14 +224,14 @@ fn is_plain(form: u8) -> bool
 
 // Whether a G word is G90 or G91.
 fn is_reading_code(form: u8, code: u32) -> bool
-    ensures { λ r. ⌜ r ≡ (isPlain (wordIn form (pos 0)) && isEntry measures code) ⌝ }
+    ensures { λ r. ⌜ r ≡ (isPlain (wordIn form (pos 0)) && hasRow measures code) ⌝ }
 {
     is_plain(form) & ((code == 90) | (code == 91))
 }
 
 // Whether a G code is that of a pattern.
 fn is_pattern_code(code: u32) -> bool
-    ensures { λ r. ⌜ r ≡ isEntry patternCodes code ⌝ }
+    ensures { λ r. ⌜ r ≡ hasRow patternCodes code ⌝ }
 {
     match code {
         26 => true,
@@ -291,7 +291,7 @@ fn with_number(mut summary: Summary) -> Summary
 
 // Whether a letter is an A that stands behind the G of a pattern.
 fn is_late(letter: u8, coded: bool, code: u32) -> bool
-    ensures { λ r. ⌜ r ≡ (eqb letter letterA && (coded && isEntry patternCodes code)) ⌝ }
+    ensures { λ r. ⌜ r ≡ (eqb letter letterA && (coded && hasRow patternCodes code)) ⌝ }
 {
     if letter == b'A' {
         coded & is_pattern_code(code)

@@ -13,17 +13,17 @@ use lib.ListN.{length, take, drop, length-take}
 use Rattle.aries.specs.declared.state.Frame.{Frame}
 use Rattle.aries.specs.declared.state.Progress.{Progress}
 use Rattle.aries.specs.Outcome.{Out}
-use Rattle.aries.specs.Hits.{Made, andThen}
+use Rattle.aries.specs.Entries.{Made, andThen}
 use Rattle.aries.specs.Judging.{Judging, limits}
 use Rattle.aries.specs.Macros.{Body, part, Bodies, bodiesOf, Calls, runLines, call, runBody}
-use Rattle.aries.specs.Runs.{lent, hitsMade}
+use Rattle.aries.specs.Runs.{lent, entriesMade}
 use Rattle.aries.specs.Text.{lines}
 use Rattle.aries.proofs.Runs.{Leads, leads-start, leads-as, leads-on, leads-out, leads-end, ran-refused, status-as, passed-as}
 use Rattle.aries.proofs.Carried.{carried-refused}
-use Rattle.stretches.specs.declared.Stop.{Stop}
-use Rattle.stretches.specs.declared.Stop.the-variants as Stop
+use Rattle.stretches.specs.declared.Sequel.{Sequel}
+use Rattle.stretches.specs.declared.Sequel.the-variants as Sequel
 use Rattle.stretches.specs.Stretches.{Stretched, stretch, LinesFit}
-use Rattle.stretches.proofs.Stops.{Stops, stretch-stops}
+use Rattle.stretches.proofs.Sequels.{SequelBehind, stretch-behind}
 use Rattle.bodies.specs.Rest.{rest, RestFits}
 use Rattle.bodies.proofs.Lines.{lines-stretched}
 use Rattle.bodies.proofs.Rest.{rest-fits, restSize, rest-less, size-call, lines-over, lines-left, left-fits}
@@ -40,7 +40,7 @@ use Rattle.aries.proofs.macros.find_in.Reads as find-in-reads
 use Rattle.aries.proofs.state.Outcome.passed.Reads as passed-reads
 use Rattle.aries.proofs.state.Outcome.refused.Reads as refused-reads
 use Rattle.bodies.proofs.clip.Reads as clip-reads
-use Rattle.stretches.proofs.Stop.is_end.Reads as is-end-reads
+use Rattle.stretches.proofs.Sequel.is_end.Reads as is-end-reads
 use Rattle.stretches.proofs.look_ahead.Reads as look-ahead-reads
 use Rattle.stretches.proofs.run_stretch.Reads as run-stretch-reads
 use Rattle.bodies.proofs.+run_body+run_rest.{statement}
@@ -83,16 +83,16 @@ rest-claims t = (
 )
 
 abbrev Inv-loop : run-rest-lts.InvT-loop
-Inv-loop depth list₀ text body macros frame now₀ stop₀ list now stop =
-    (RestFits body stop)
+Inv-loop depth list₀ text body macros frame now₀ sequel₀ list now sequel =
+    (RestFits body sequel)
     × (length list ≡ length list₀)
-    × Leads hitsMade (frame .job) (lent list) (now .hits)
-    (rest (limits (frame .job)) (call (limits (frame .job)) (bodiesOf text macros) depth) frame body stop now)
-    (lent list₀) (now₀ .hits)
-    (rest (limits (frame .job)) (call (limits (frame .job)) (bodiesOf text macros) depth) frame body stop₀ now₀)
+    × Leads entriesMade (frame .job) (lent list) (now .entries)
+    (rest (limits (frame .job)) (call (limits (frame .job)) (bodiesOf text macros) depth) frame body sequel now)
+    (lent list₀) (now₀ .entries)
+    (rest (limits (frame .job)) (call (limits (frame .job)) (bodiesOf text macros) depth) frame body sequel₀ now₀)
 
 abbrev μ-loop : run-rest-lts.MeasureT-loop
-μ-loop depth list₀ text body macros frame now₀ stop₀ list now stop = restSize body stop
+μ-loop depth list₀ text body macros frame now₀ sequel₀ list now sequel = restSize body sequel
 
 module _ (t : ℕ) where
   loop-holds : run-rest-lts.Need-loop-holds (rest-claims t) (run-rest-at t) run-rest.Post Inv-loop μ-loop
@@ -116,24 +116,24 @@ module _ (t : ℕ) where
 
     -- what is left to do, by the block that the last stretch ended at
     abbrev Left : List ℤ → Progress → Out (Made Progress) → Type 0
-    Left list g out = Leads hitsMade (rest-frame .job) (lent list) (g .hits) out (lent (start-of .args .list .now)) (start-of .args .progress .hits) (rest rest-judging rest-calls rest-frame rest-body (start-of .args .from) (start-of .args .progress))
+    Left list g out = Leads entriesMade (rest-frame .job) (lent list) (g .entries) out (lent (start-of .args .list .now)) (start-of .args .progress .entries) (rest rest-judging rest-calls rest-frame rest-body (start-of .args .from) (start-of .args .progress))
 
-    left-at : (stop : Stop) → l .loop .stop ≡ stop → Left (l .loop .list) (l .loop .now) (rest rest-judging rest-calls rest-frame rest-body stop (l .loop .now))
-    left-at stop e = leads-as (ap (λ (x : Stop). rest rest-judging rest-calls rest-frame rest-body x (l .loop .now)) e) (l .loop .inv .2)
+    left-at : (sequel : Sequel) → l .loop .sequel ≡ sequel → Left (l .loop .list) (l .loop .now) (rest rest-judging rest-calls rest-frame rest-body sequel (l .loop .now))
+    left-at sequel e = leads-as (ap (λ (x : Sequel). rest rest-judging rest-calls rest-frame rest-body x (l .loop .now)) e) (l .loop .inv .2)
 
   rest-same-length : run-rest-lts.Need-same-length (rest-claims t) (run-rest-at t) run-rest.Post Inv-loop μ-loop
   rest-same-length c = c .before .before .before .loop .inv .1
 
   rest-returns : run-rest-lts.Need-returns (rest-claims t) (run-rest-at t) run-rest.Post Inv-loop μ-loop
-  rest-returns c = rw (c .passed .ensures) (leads-end (left-at (c .before .before .before) Stop.End (c .before .enum-told .given .1)))
+  rest-returns c = rw (c .passed .ensures) (leads-end (left-at (c .before .before .before) Sequel.End (c .before .enum-told .given .1)))
 
   rest-same-length-2 : run-rest-lts.Need-same-length-2 (rest-claims t) (run-rest-at t) run-rest.Post Inv-loop μ-loop
   rest-same-length-2 c = c .before .before .before .before .loop .inv .1
 
   rest-returns-2 : run-rest-lts.Need-returns-2 (rest-claims t) (run-rest-at t) run-rest.Post Inv-loop μ-loop
   rest-returns-2 c =
-      let given = c .before .before .stop .given in
-      rw (c .refused .ensures) (left-at (c .before .before .before .before) (Stop.Outside (given .0 .0) (given .0 .1 .0) (given .0 .1 .1 .0)) (given .1) _ _ _ ran-refused)
+      let given = c .before .before .sequel .given in
+      rw (c .refused .ensures) (left-at (c .before .before .before .before) (Sequel.Outside (given .0 .0) (given .0 .1 .0) (given .0 .1 .1 .0)) (given .1) _ _ _ ran-refused)
 
   run-body-requires : run-rest-lts.Need-run-body-requires (rest-claims t) (run-rest-at t) run-rest.Post Inv-loop μ-loop
   run-body-requires c κs =
@@ -147,16 +147,16 @@ module _ (t : ℕ) where
     at = b .before .before .before .before .before
 
     abbrev number : ℕ
-    number = b .before .before .before .stop2 .given .0 .0
+    number = b .before .before .before .sequel2 .given .0 .0
 
     abbrev end : ℕ
-    end = b .before .before .before .stop2 .given .0 .1 .0
+    end = b .before .before .before .sequel2 .given .0 .1 .0
 
     abbrev place : ℕ
-    place = b .before .before .before .stop2 .given .0 .1 .1 .0
+    place = b .before .before .before .sequel2 .given .0 .1 .1 .0
 
-    is-call : at .loop .stop ≡ Stop.Call number end place
-    is-call = b .before .before .before .stop2 .given .1
+    is-call : at .loop .sequel ≡ Sequel.Call number end place
+    is-call = b .before .before .before .sequel2 .given .1
 
     -- the lines behind it
     abbrev behind : Progress → Out (Made Progress)
@@ -175,7 +175,7 @@ module _ (t : ℕ) where
   rest-returns-3 c =
       let b = c .before .before .before in
       let given = c .enum-told2 .given in
-      rw (given .1) (leads-out (behind b) (status-as (given .1) (b .run-body .ensures)) (left-at (at b) (Stop.Call (number b) (end b) (place b)) (is-call b)))
+      rw (given .1) (leads-out (behind b) (status-as (given .1) (b .run-body .ensures)) (left-at (at b) (Sequel.Call (number b) (end b) (place b)) (is-call b)))
 
   rest-look-ahead-requires : run-rest-lts.Need-look-ahead-requires (rest-claims t) (run-rest-at t) run-rest.Post Inv-loop μ-loop
   rest-look-ahead-requires c κs = fits (c .before .before .before)
@@ -197,17 +197,17 @@ module _ (t : ℕ) where
     abbrev next : Stretched
     next = stretch (rest-judging here) (rest-frame here) (end called-at) (place called-at) (lines (drop (end called-at) (rest-body here))) after-call
 
-    left-behind : Left here (called-at .run-body .last .1 .0) after-call (andThen (next .made) (rest (rest-judging here) (rest-calls here) (rest-frame here) (rest-body here) (next .stop)))
+    left-behind : Left here (called-at .run-body .last .1 .0) after-call (andThen (next .made) (rest (rest-judging here) (rest-calls here) (rest-frame here) (rest-body here) (next .sequel)))
     left-behind =
         leads-as (lines-stretched (rest-judging here) (rest-calls here) (rest-frame here) (rest-body here) (end called-at) (place called-at) after-call)
         (leads-on (rest-calls here (rest-frame here) (number called-at) (place called-at) (here .loop .now)) (behind called-at) (passed-as (s .before .before .before .enum-told3 .given .1) (called-at .run-body .ensures))
-        (left-at here (Stop.Call (number called-at) (end called-at) (place called-at)) (is-call called-at)))
+        (left-at here (Sequel.Call (number called-at) (end called-at) (place called-at)) (is-call called-at)))
 
     next-kept : length (s .run-stretch .last .0) ≡ length (start-of here .args .list .now)
     next-kept = s .run-stretch .kept .0 ∙ called-kept called-at
 
-    next-stops : Stops (rest-body here) (end called-at) (place called-at) (s .run-stretch .result .stop)
-    next-stops = subst (Stops (rest-body here) (end called-at) (place called-at)) (sym (s .run-stretch .ensures .stopped)) (stretch-stops (rest-body here) (rest-judging here) (rest-frame here) (end called-at) (place called-at) after-call)
+    next-behind : SequelBehind (rest-body here) (end called-at) (place called-at) (s .run-stretch .result .sequel)
+    next-behind = subst (SequelBehind (rest-body here) (end called-at) (place called-at)) (sym (s .run-stretch .ensures .same-sequel)) (stretch-behind (rest-body here) (rest-judging here) (rest-frame here) (end called-at) (place called-at) after-call)
 
   rest-same-length-4 : run-rest-lts.Need-same-length-4 (rest-claims t) (run-rest-at t) run-rest.Post Inv-loop μ-loop
   rest-same-length-4 c = next-kept (c .before .before .before .before .before .before .before)
@@ -217,23 +217,23 @@ module _ (t : ℕ) where
       let s = c .before .before .before .before .before .before .before in
       let l = here s in
       let given = c .before .before .status .given in
-      rw (c .refused2 .ensures) (leads-out (rest (rest-judging l) (rest-calls l) (rest-frame l) (rest-body l) (next s .stop)) (status-as (given .1) (s .run-stretch .ensures .ran)) (left-behind s))
+      rw (c .refused2 .ensures) (leads-out (rest (rest-judging l) (rest-calls l) (rest-frame l) (rest-body l) (next s .sequel)) (status-as (given .1) (s .run-stretch .ensures .ran)) (left-behind s))
 
   loop-less : run-rest-lts.Need-loop-less (rest-claims t) (run-rest-at t) run-rest.Post Inv-loop μ-loop
   loop-less c =
       let s = c .before .before .before .before .before in
       let b = called-at s in
-      omega (arith, ap (restSize (rest-body (here s))) (is-call b), size-call (rest-body (here s)) (number b) (end b) (place b), rest-less (rest-body (here s)) (end b) (place b) (s .run-stretch .result .stop) (next-stops s))
+      omega (arith, ap (restSize (rest-body (here s))) (is-call b), size-call (rest-body (here s)) (number b) (end b) (place b), rest-less (rest-body (here s)) (end b) (place b) (s .run-stretch .result .sequel) (next-behind s))
 
   loop-again : run-rest-lts.Need-loop-again (rest-claims t) (run-rest-at t) run-rest.Post Inv-loop μ-loop
   loop-again c =
       let s = c .before .before .before .before .before in
       let b = called-at s in
       let l = here s in (
-        rest-fits (rest-body l) (end b) (place b) (s .run-stretch .result .stop) (fits b) (next-stops s),
+        rest-fits (rest-body l) (end b) (place b) (s .run-stretch .result .sequel) (fits b) (next-behind s),
         next-kept s,
-        leads-as (ap (λ (x : Stop). rest (rest-judging l) (rest-calls l) (rest-frame l) (rest-body l) x (s .run-stretch .result .outcome .progress)) (sym (s .run-stretch .ensures .stopped)))
-            (leads-on (next s .made) (rest (rest-judging l) (rest-calls l) (rest-frame l) (rest-body l) (next s .stop)) (passed-as (c .enum-told4 .given .1) (s .run-stretch .ensures .ran)) (left-behind s)),
+        leads-as (ap (λ (x : Sequel). rest (rest-judging l) (rest-calls l) (rest-frame l) (rest-body l) x (s .run-stretch .result .outcome .progress)) (sym (s .run-stretch .ensures .same-sequel)))
+            (leads-on (next s .made) (rest (rest-judging l) (rest-calls l) (rest-frame l) (rest-body l) (next s .sequel)) (passed-as (c .enum-told4 .given .1) (s .run-stretch .ensures .ran)) (left-behind s)),
       )
 
 -- ---- The body runner
@@ -277,8 +277,8 @@ module _ (t : ℕ) where
     abbrev start : ℕ
     start = k .before .found .given .0 .0
 
-    abbrev stop : ℕ
-    stop = k .before .found .given .0 .1 .0
+    abbrev sequel : ℕ
+    sequel = k .before .found .given .0 .1 .0
 
     abbrev first : ℕ
     first = k .before .found .given .0 .1 .1 .0
@@ -287,10 +287,10 @@ module _ (t : ℕ) where
     stored = bodiesOf (called .args .text .now) (called .args .t6)
 
     abbrev found : Body
-    found = record { line = first; bytes = part (called .args .text .now) start stop }
+    found = record { line = first; bytes = part (called .args .text .now) start sequel }
 
     is-stored : stored (called .args .number) ≡ some found
-    is-stored = body-found (called .args .text .now) (called .args .t6) (called .args .number) start stop first (sym (k .before .before .before .find-in .ensures) ∙ k .before .found .given .1)
+    is-stored = body-found (called .args .text .now) (called .args .t6) (called .args .number) start sequel first (sym (k .before .before .before .find-in .ensures) ∙ k .before .found .given .1)
 
   body-returns-2 : run-body-lts.Need-returns-2 (body-claims t) (run-body-at t) run-body.Post
   body-returns-2 c =
@@ -313,20 +313,20 @@ module _ (t : ℕ) where
     abbrev to : ℕ
     to = c .before .clip .result
 
-    to-is : to ≡ clipped (stop at-body) (length whole-text)
+    to-is : to ≡ clipped (sequel at-body) (length whole-text)
     to-is = c .before .clip .ensures
 
-    from-is : from ≡ clipped (start at-body) (clipped (stop at-body) (length whole-text))
+    from-is : from ≡ clipped (start at-body) (clipped (sequel at-body) (length whole-text))
     from-is = c .clip2 .ensures ∙ ap (clipped (start at-body)) to-is
 
     ordered : from ≤ to
     ordered = omega (arith, c .clip2 .ensures, clipped-within (start at-body) to .0)
 
     inside : to ≤ length whole-text
-    inside = omega (arith, to-is, clipped-within (stop at-body) (length whole-text) .0)
+    inside = omega (arith, to-is, clipped-within (sequel at-body) (length whole-text) .0)
 
-    is-part : take (to - from) (drop from whole-text) ≡ part whole-text (start at-body) (stop at-body)
-    is-part = ap₂ (λ (a b : ℕ). take (b - a) (drop a whole-text)) from-is to-is ∙ part-clipped whole-text (start at-body) (stop at-body)
+    is-part : take (to - from) (drop from whole-text) ≡ part whole-text (start at-body) (sequel at-body)
+    is-part = ap₂ (λ (a b : ℕ). take (b - a) (drop a whole-text)) from-is to-is ∙ part-clipped whole-text (start at-body) (sequel at-body)
 
     -- one more call may be opened
     opens : 0 < called at-body .args .depth

@@ -6,7 +6,7 @@ use Rattle.aries.specs.declared.state.Frame.{Frame}
 use Rattle.aries.specs.declared.state.Outcome.{Outcome}
 use Rattle.aries.specs.declared.state.Progress.{Progress}
 use Rattle.aries.specs.Outcome.{Out}
-use Rattle.aries.specs.Hits.{Made}
+use Rattle.aries.specs.Entries.{Made}
 use Rattle.aries.specs.Judging.{Judging, limits, near}
 use Rattle.aries.specs.Layouts.{Part, copyStart, partOf, copy}
 use Rattle.aries.specs.Macros.{bodiesOf, Calls, call, mostCalls, runBody}
@@ -30,7 +30,7 @@ parts s j = partOf j (bodiesOf (s .args .text .now) (s .args .macros)) (bodyOf (
 
 -- the state found, with the counts
 abbrev counts : tie.Start → Progress
-counts s = record { state = s .args .found; blocks = s .args .blocks; hits = s .args .hits }
+counts s = record { state = s .args .found; blocks = s .args .blocks; entries = s .args .entries }
 
 abbrev copied : tie.Start → Judging → Progress → Out (Made Progress)
 copied s j = copy j (parts s j) (s .args .frame) (s .args .line) (s .args .found) (pointOf (s .args .place))

@@ -5,7 +5,7 @@ use Rattle.aries.specs.declared.state.Progress.{Progress}
 use Rattle.aries.specs.declared.state.Status.the-variants.{Passed}
 use Rattle.aries.specs.Layouts.{copyStart}
 use Rattle.aries.specs.Moves.{withState}
-use Rattle.aries.proofs.Carried.{carried-refused, carried-no-hit}
+use Rattle.aries.proofs.Carried.{carried-refused, carried-no-entry}
 use Rattle.copies.specs.Copying.{blankPart, allCopies}
 use Rattle.copies.proofs.CopyAll.{blank-passed, blank-refused}
 use Rattle.copies.proofs.copy_blank.Statement.{statement}
@@ -45,7 +45,7 @@ returns-2 c l =
     let d = k .before .before in
     let a = d .before .args in
     let e = c .before .with-state .ensures ∙ ap (withState (a .progress)) (c .before .before .copy-start .ensures) in
-    carried-no-hit (a .frame) (λ j. allCopies j blankPart (a .frame) (a .line) (a .layout) (a .copies))
+    carried-no-entry (a .frame) (λ j. allCopies j blankPart (a .frame) (a .line) (a .layout) (a .copies))
     (c .passed .ensures ∙ ap (λ (g : Progress). record { status = Passed; progress = g }) e) refl
     (blank-passed (a .frame) (a .line) (a .layout) (a .copies) (a .progress) (sym (d .last-copy .ensures) ∙ k .last .given .1))
 

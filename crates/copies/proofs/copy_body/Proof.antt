@@ -12,11 +12,11 @@ use Rattle.aries.specs.declared.state.Frame.{Frame}
 use Rattle.aries.specs.declared.state.Progress.{Progress}
 use Rattle.aries.specs.declared.state.State.{State}
 use Rattle.aries.specs.Outcome.{Out}
-use Rattle.aries.specs.Hits.{Made, andThen}
+use Rattle.aries.specs.Entries.{Made, andThen}
 use Rattle.aries.specs.Judging.{limits}
 use Rattle.aries.specs.Layouts.{Part, copyCount, copyPlace, partOf, copy, copyAll}
 use Rattle.aries.specs.Macros.{bodiesOf}
-use Rattle.aries.specs.Runs.{hitsMade, lent, Ran}
+use Rattle.aries.specs.Runs.{entriesMade, lent, Ran}
 use Rattle.aries.proofs.Runs.{Leads, leads-start, leads-as, leads-on, leads-out, leads-end}
 use Rattle.lanes.specs.Cursors.{cursorAt}
 use Rattle.lanes.proofs.Cursors.{at-zero}
@@ -36,9 +36,9 @@ Inv-loop list₀ text body first start macros frame line layout copies origin fo
     (m ≤ count)
     × (cursor ≡ cursorAt last m)
     × (length list ≡ length list₀)
-    × Leads hitsMade (frame .job)
-    (lent list) (now .hits) (left text body first macros frame line layout copies found (copyCount layout - m) m now)
-    (lent list₀) (now₀ .hits) (left text body first macros frame line layout copies found (copyCount layout) 0 now₀)
+    × Leads entriesMade (frame .job)
+    (lent list) (now .entries) (left text body first macros frame line layout copies found (copyCount layout - m) m now)
+    (lent list₀) (now₀ .entries) (left text body first macros frame line layout copies found (copyCount layout) 0 now₀)
 
 abbrev μ-loop : tie.MeasureT-loop
 μ-loop list₀ text body first start macros frame line layout copies origin found last count now₀ cursor₀ m₀ list now cursor m = count - m
@@ -73,7 +73,7 @@ more c = omega (arith, c .before .before .before .copy-count .ensures, c .loop-t
 
 -- it is made
 copied : (c : tie.After-copy-next Inv-loop μ-loop) → let t = c .before .before .before .before in
-    Ran hitsMade (entry t .args .frame .job) (c .copy-next .result .status) (c .copy-next .result .progress) (lent (t .loop .list)) (lent (c .copy-next .last .0)) (t .loop .now .hits) (one (entry t) (t .loop .m) (t .loop .now))
+    Ran entriesMade (entry t .args .frame .job) (c .copy-next .result .status) (c .copy-next .result .progress) (lent (t .loop .list)) (lent (c .copy-next .last .0)) (t .loop .now .entries) (one (entry t) (t .loop .m) (t .loop .now))
 copied c =
     let t = c .before .before .before .before in
     let l = t .before .before .before .lane-end in
@@ -83,9 +83,9 @@ copied c =
 
 -- and the rest follows
 leads : (c : tie.In-loop Inv-loop μ-loop) → let t = c .before in let m = t .loop .m in let n = copyCount (entry t .args .layout) in
-    Leads hitsMade (entry t .args .frame .job)
-    (lent (t .loop .list)) (t .loop .now .hits) (andThen (one (entry t) m (t .loop .now)) (rest (entry t) (n - (m + 1)) (m + 1)))
-    (lent (entry t .args .list .now)) (entry t .args .progress .hits) (rest (entry t) n 0 (entry t .args .progress))
+    Leads entriesMade (entry t .args .frame .job)
+    (lent (t .loop .list)) (t .loop .now .entries) (andThen (one (entry t) m (t .loop .now)) (rest (entry t) (n - (m + 1)) (m + 1)))
+    (lent (entry t .args .list .now)) (entry t .args .progress .entries) (rest (entry t) n 0 (entry t .args .progress))
 leads c =
     let t = c .before in
     let a = entry t .args in

@@ -3,12 +3,12 @@ use mathlib.Core.Path.{refl}
 use Rattle.aries.specs.Text.{bytes}
 use Rattle.aries.specs.Program.{expand, listOf}
 use Rattle.printing.specs.Decimals.{digits, decimal, signedDecimal}
-use Rattle.printing.specs.Listing.{hitLine, hitLines, headLine, listing}
+use Rattle.printing.specs.Listing.{entryLine, entryLines, headLine, listing}
 use Rattle.printing.proofs.plate_printed.Statement.{statement}
 use Rattle.printing.proofs.plate_printed.Tie as tie
 
 returns : tie.Need-returns
-unfolding bytes expand listOf digits decimal signedDecimal hitLine hitLines headLine listing
+unfolding bytes expand listOf digits decimal signedDecimal entryLine entryLines headLine listing
 returns c = refl
 
 pub plate-printed-spec : {M : Type 1} → statement M

@@ -1,4 +1,4 @@
--- The head in front of the hits, or the line of the refusal. Assumes nothing.
+-- The head in front of the entries, or the line of the refusal. Assumes nothing.
 use Rattle.printing.specs.Listing.{listing}
 use Rattle.printing.proofs.Buffers.{put-then, put-ends}
 use borrow.Author.Needs.{needs}
@@ -8,8 +8,8 @@ use Rattle.printing.proofs.render.Tie as tie
 enum-known-answer : tie.Need-enum-known-answer
 enum-known-answer c = search needs
 
-put-hits-requires : tie.Need-put-hits-requires
-put-hits-requires c κs = rw (c .before .before .answer .given .1) at (c .before .before .before .before .before .pre)
+put-entries-requires : tie.Need-put-entries-requires
+put-entries-requires c κs = rw (c .before .before .answer .given .1) at (c .before .before .before .before .before .pre)
 
 put-head-requires : tie.Need-put-head-requires
 put-head-requires c κs = search needs
@@ -27,7 +27,7 @@ returns : tie.Need-returns
 unfolding listing
 returns c =
     rw (c .before .before .before .before .before .before .before .before .before .answer .given .1)
-    (put-ends (put-then (c .before .before .before .before .before .before .put-hits .ensures .0) (c .before .before .put-head .ensures)))
+    (put-ends (put-then (c .before .before .before .before .before .before .put-entries .ensures .0) (c .before .before .put-head .ensures)))
 
 same-length-2 : tie.Need-same-length-2
 same-length-2 c = search needs
@@ -41,7 +41,7 @@ render-spec =
     tie.close
     (tie.spec
     enum-known-answer
-    put-hits-requires
+    put-entries-requires
     put-head-requires
     enum-known-answer-2
     put-refusal-requires

@@ -8,7 +8,7 @@ use Rattle.aries.specs.Judging.{limits}
 use Rattle.aries.specs.Bodies.{firstRun}
 use Rattle.aries.specs.Macros.{Body}
 use Rattle.aries.specs.Setup.{ordinaryFrame}
-use Rattle.aries.proofs.Carried.{carried-no-hit}
+use Rattle.aries.proofs.Carried.{carried-no-entry}
 use Rattle.storing.proofs.Opening.{runs-not, runs-once}
 use Rattle.storing.proofs.first_run.Statement.{statement}
 use Rattle.storing.proofs.first_run.Tie as tie
@@ -17,7 +17,7 @@ returns : tie.Need-returns
 returns c =
     let r = c .before .before in
     let a = r .before .before .before .args in
-    carried-no-hit (ordinaryFrame (a .setup)) (λ j. firstRun j (a .text .now) (a .macros) (a .number) (record { line = a .first; bytes = a .body .now }) (a .setup)) (c .passed .ensures) refl
+    carried-no-entry (ordinaryFrame (a .setup)) (λ j. firstRun j (a .text .now) (a .macros) (a .number) (record { line = a .first; bytes = a .body .now }) (a .setup)) (c .passed .ensures) refl
     (runs-not (limits (a .setup .job)) (a .text .now) (a .macros) (a .number) (record { line = a .first; bytes = a .body .now }) (a .setup) (a .progress)
     (sym (r .runs-first .ensures) ∙ not-true _ (c .before .if1 .taken)))
 

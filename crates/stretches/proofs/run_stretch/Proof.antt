@@ -20,12 +20,12 @@ use Rattle.aries.specs.declared.state.Progress.{Progress}
 use Rattle.aries.specs.declared.state.Status.{Status}
 use Rattle.aries.specs.declared.state.Status.the-variants.{Passed, Refused}
 use Rattle.aries.specs.Outcome.{Out}
-use Rattle.aries.specs.Hits.{Made}
+use Rattle.aries.specs.Entries.{Made}
 use Rattle.aries.specs.Judging.{Judging, limits}
 use Rattle.aries.specs.Letters.{letterV}
 use Rattle.aries.specs.Reader.{readerOf}
 use Rattle.aries.specs.Macros.{carryDirect, begun}
-use Rattle.aries.specs.Runs.{lent, Ran, hitsMade}
+use Rattle.aries.specs.Runs.{lent, Ran, entriesMade}
 use Rattle.aries.specs.Text.{lines}
 use Rattle.text.proofs.Lines.{line-goes-on, line-inside}
 use Rattle.decode.specs.Decoding.{decodedAt}
@@ -35,7 +35,7 @@ use Rattle.stretches.specs.Stretches.{Stretched, refusedAt, stepOf, onwa
 use Rattle.stretches.proofs.Lookahead.{Meets, ahead-block, ahead-nothing}
 use Rattle.stretches.proofs.Stretches.{StretchLeads, lead-as, lead-start, lead-skip, lead-on, stretch-refused, stretch-ended, stretch-skip, stretch-end}
 use Rattle.aries.proofs.Runs.{refused-out}
-use Rattle.stretches.proofs.Turns.{turn-spent, turn-refused, turn-direct, turn-stop, counted-room}
+use Rattle.stretches.proofs.Turns.{turn-spent, turn-refused, turn-direct, turn-sequel, counted-room}
 use Rattle.stretches.proofs.run_stretch.Statement.{statement}
 use Rattle.stretches.proofs.run_stretch.Tie as tie
 
@@ -44,7 +44,7 @@ Inv-loop list₀ text from first frame now₀ at₀ line₀ next₀ list now at 
     (line + (length text - at) ≤ first + (length text - from))
     × (next ≡ ahead (readerOf frame) text at line)
     × (length list ≡ length list₀)
-    × StretchLeads (frame .job) (lent list) (now .hits) (stretch (limits (frame .job)) frame at line (lines (drop at text)) now) (lent list₀) (now₀ .hits)
+    × StretchLeads (frame .job) (lent list) (now .entries) (stretch (limits (frame .job)) frame at line (lines (drop at text)) now) (lent list₀) (now₀ .entries)
     (stretch (limits (frame .job)) frame from first (lines (drop from text)) now₀)
 
 abbrev μ-loop : tie.MeasureT-loop
@@ -101,7 +101,7 @@ module _ (k : tie.After-known-told Inv-loop μ-loop) where
   meets = ahead-block reader text (around .loop .at) (around .loop .line) place number decoded (sym (around .loop .inv .1) ∙ k .before .next .given .1)
 
   -- what is left, from the block on
-  lead : StretchLeads (frame .job) (lent (around .loop .list)) (now .hits) (stretch (limits (frame .job)) frame place number (lines (drop place text)) now) (lent (entry .args .list .now)) (entry .args .progress .hits) (whole (limits (frame .job)) (entry .args .progress))
+  lead : StretchLeads (frame .job) (lent (around .loop .list)) (now .entries) (stretch (limits (frame .job)) frame place number (lines (drop place text)) now) (lent (entry .args .list .now)) (entry .args .progress .entries) (whole (limits (frame .job)) (entry .args .progress))
   lead = lead-skip (limits (frame .job)) frame text (around .loop .at) (around .loop .line) place number now (meets .past) (meets .counted) (around .loop .inv .3)
 
 shared-slice-read-counted : tie.Need-shared-slice-read-counted Inv-loop μ-loop
@@ -171,7 +171,7 @@ returns-4 c =
     let b = c .before .before .before in
     let k = at-block b in
     stretch-ended (c .passed2 .result) (frame k) (lent (entry k .args .list .now)) (entry k .args .progress) (whole k) (rw (b .begun .ensures) at (rw (c .before .at .ensures) at (c .passed2 .ensures)))
-    (turn-stop (frame k .job) (frame k) (text k) (place k) (number k) (now k) (meets k .inside) (meets k .block) (may (room b)) (instruction b) (end b) (decodes b) (c .before .before .match3 .keys2)) (lead k)
+    (turn-sequel (frame k .job) (frame k) (text k) (place k) (number k) (now k) (meets k .inside) (meets k .block) (may (room b)) (instruction b) (end b) (decodes b) (c .before .before .match3 .keys2)) (lead k)
 
 -- ---- A direct block
 
@@ -204,15 +204,15 @@ module _ (p : tie.After-is-pattern Inv-loop μ-loop) where
   -- it was carried out
   module _
       {status : Status} {left : Progress} {list : List ℤ}
-      (carried : Ran hitsMade (frame here .job) status left (lent (around here .loop .list)) (lent list) (began .begun .result .hits) (carryDirect judging (frame here) (number here) direct (began .begun .result))) where
-    made-ran : Ran hitsMade (frame here .job) status left (lent (around here .loop .list)) (lent list) (now here .hits) made
+      (carried : Ran entriesMade (frame here .job) status left (lent (around here .loop .list)) (lent list) (began .begun .result .entries) (carryDirect judging (frame here) (number here) direct (began .begun .result))) where
+    made-ran : Ran entriesMade (frame here .job) status left (lent (around here .loop .list)) (lent list) (now here .entries) made
     made-ran =
-        subst (λ (g : Progress). Ran hitsMade (frame here .job) status left (lent (around here .loop .list)) (lent list) (g .hits) (carryDirect judging (frame here) (number here) direct g)) (began .begun .ensures) carried
+        subst (λ (g : Progress). Ran entriesMade (frame here .job) status left (lent (around here .loop .list)) (lent list) (g .entries) (carryDirect judging (frame here) (number here) direct g)) (began .begun .ensures) carried
 
     refuses : {code line : ℕ} → status ≡ Refused code line → stretch judging (frame here) (place here) (number here) (lines (drop (place here) (text here))) (now here) ≡ refusedAt code line
     refuses e = here-made ∙ ap (λ (o : Out (Made Progress)). onward (stepOf o) rest) (refused-out made (sym e ∙ made-ran .same-status))
 
-    passes : status ≡ Passed → StretchLeads (frame here .job) (lent list) (left .hits) (rest left) (lent (entry here .args .list .now)) (entry here .args .progress .hits) (whole here judging (entry here .args .progress))
+    passes : status ≡ Passed → StretchLeads (frame here .job) (lent list) (left .entries) (rest left) (lent (entry here .args .list .now)) (entry here .args .progress .entries) (whole here judging (entry here .args .progress))
     passes e = lead-on made rest e made-ran (lead-as here-made (lead here))
 
   -- the lines behind it fit as those from the start do

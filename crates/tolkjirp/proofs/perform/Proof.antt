@@ -1,4 +1,4 @@
--- The three ways out: a refusal on the way, a text without its G50, and the hits.
+-- The three ways out: a refusal on the way, a text without its G50, and the entries.
 use mathlib.Core.Path.{_≡_, sym, ap, _∙_}
 use Prim.Native.Nat.{ℕ, _/_, _≤_}
 use native.Mathlib.Omega.{arith}
@@ -10,9 +10,9 @@ use Rattle.aries.specs.declared.state.Status.the-variants.{Passed}
 use Rattle.aries.specs.Judging.{lending, limits}
 use Rattle.aries.specs.Outcome.{refused}
 use Rattle.aries.specs.Program.{freshProgram, runFrom}
-use Rattle.aries.specs.Runs.{lent, hitsOfProgram, Ran}
+use Rattle.aries.specs.Runs.{lent, entriesOfProgram, Ran}
 use Rattle.aries.specs.Text.{lines}
-use Rattle.tolkjirp.proofs.Endings.{answers-refused, perform-refused, perform-open, perform-hits, hits-fit}
+use Rattle.tolkjirp.proofs.Endings.{answers-refused, perform-refused, perform-open, perform-entries, entries-fit}
 use Rattle.tolkjirp.proofs.perform.Statement.{statement}
 use Rattle.tolkjirp.proofs.perform.Tie as tie
 
@@ -23,7 +23,7 @@ module _ (c : tie.After-run-text) where
 
   ran :
       let a = entry .args in
-      Ran hitsOfProgram (lending (a .setting) (length (a .list .now))) (c .run-text .result .status) (c .run-text .result .program) (lent (a .list .now)) (lent (c .run-text .last .1 .0)) 0
+      Ran entriesOfProgram (lending (a .setting) (length (a .list .now))) (c .run-text .result .status) (c .run-text .result .program) (lent (a .list .now)) (lent (c .run-text .last .1 .0)) 0
       (runFrom (limits (lending (a .setting) (length (a .list .now)))) (a .text .now) 0 1 (lines (a .text .now)) (freshProgram (lending (a .setting) (length (a .list .now)))))
   ran = rw (c .before .before .lending .ensures) at (c .run-text .ensures)
 
@@ -60,13 +60,13 @@ returns-2 c =
     (perform-open (a .setting) (a .list .now) (r .run-text .last .1 .0) (a .text .now) (length (lines (a .whole .now))) (ran r) (passed e) (sym (e .is-ended .ensures) ∙ not-true (e .is-ended .result) (t .if1 .taken))
     ∙ ap (λ (k : ℕ). refused 7 k) (sym (n .count-lines .ensures)))
 
--- the hits have places in the list
-fits : (c : tie.After-clear-from-arg) → let r = run (c .before .before) in r .run-text .result .program .progress .hits ≤ length (entry r .args .list .now) / 4
+-- the entries have places in the list
+fits : (c : tie.After-clear-from-arg) → let r = run (c .before .before) in r .run-text .result .program .progress .entries ≤ length (entry r .args .list .now) / 4
 fits c =
     let e = c .before .before in
     let r = run e in
     let a = entry r .args in
-    hits-fit (a .setting) (a .list .now) (r .run-text .last .1 .0) (a .text .now) 0 (ran r) (passed e)
+    entries-fit (a .setting) (a .list .now) (r .run-text .last .1 .0) (a .text .now) 0 (ran r) (passed e)
 
 returns-3 : tie.Need-returns-3
 returns-3 c =
@@ -75,7 +75,7 @@ returns-3 c =
     let e = i .before in
     let r = run e in
     let a = entry r .args in
-    perform-hits (a .setting) (a .list .now) (r .run-text .last .1 .0) (a .text .now) (length (lines (a .whole .now))) (ran r) (passed e) (f .clear-from .last .0)
+    perform-entries (a .setting) (a .list .now) (r .run-text .last .1 .0) (a .text .now) (length (lines (a .whole .now))) (ran r) (passed e) (f .clear-from .last .0)
     (sym (e .is-ended .ensures) ∙ not-false (e .is-ended .result) (i .if1 .left)) (r .run-text .kept .1 .0) (f .clear-from .ensures)
 
 pub perform-spec : {M : Type 1} → statement M

@@ -18,12 +18,12 @@ use Rattle.patterns.proofs.series.punch_arc.Statement.{statement}
 use Rattle.patterns.proofs.series.punch_arc.Tie as tie
 
 abbrev Inv-loop : tie.InvT-loop
-Inv-loop list₀ frame tooling start hits radius angle step count degrees sines cosines made₀ k₀ list made k =
+Inv-loop list₀ frame tooling start entries radius angle step count degrees sines cosines made₀ k₀ list made k =
     (length list ≡ length list₀)
-    × UnderWay (seriesOf frame tooling (Arc (toZ w32 radius) (toZ w32 angle) (toZ w32 step) count) start hits (lent list₀) count) (lent list) made k
+    × UnderWay (seriesOf frame tooling (Arc (toZ w32 radius) (toZ w32 angle) (toZ w32 step) count) start entries (lent list₀) count) (lent list) made k
 
 abbrev μ-loop : tie.MeasureT-loop
-μ-loop list₀ frame tooling start hits radius angle step count degrees sines cosines made₀ k₀ list made k = count - k
+μ-loop list₀ frame tooling start entries radius angle step count degrees sines cosines made₀ k₀ list made k = count - k
 
 -- the function's entry, seen from the loop's head
 abbrev entry : tie.At-loop Inv-loop μ-loop → tie.Start Inv-loop μ-loop
@@ -33,7 +33,7 @@ entry c = c .before .before .before .before
 abbrev arc : tie.Start Inv-loop μ-loop → Series
 arc c =
     let a = c .args in
-    seriesOf (a .frame) (a .tooling) (Arc (toZ w32 (ofZ w32 (a .radius))) (toZ w32 (ofZ w32 (a .angle))) (toZ w32 (ofZ w32 (a .step))) (a .count)) (a .start) (a .hits) (lent (a .list .now)) (a .count)
+    seriesOf (a .frame) (a .tooling) (Arc (toZ w32 (ofZ w32 (a .radius))) (toZ w32 (ofZ w32 (a .angle))) (toZ w32 (ofZ w32 (a .step))) (a .count)) (a .start) (a .entries) (lent (a .list .now)) (a .count)
 
 -- a turn of the loop, seen from its place
 abbrev turn : tie.After-arc-place Inv-loop μ-loop → tie.In-loop Inv-loop μ-loop

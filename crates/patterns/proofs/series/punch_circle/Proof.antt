@@ -18,12 +18,12 @@ use Rattle.patterns.proofs.series.punch_circle.Statement.{statement}
 use Rattle.patterns.proofs.series.punch_circle.Tie as tie
 
 abbrev Inv-loop : tie.InvT-loop
-Inv-loop list₀ frame tooling start hits radius angle clockwise count degrees sines cosines made₀ k₀ list made k =
+Inv-loop list₀ frame tooling start entries radius angle clockwise count degrees sines cosines made₀ k₀ list made k =
     (length list ≡ length list₀)
-    × UnderWay (seriesOf frame tooling (Circle (toZ w32 radius) (toZ w32 angle) clockwise count) start hits (lent list₀) count) (lent list) made k
+    × UnderWay (seriesOf frame tooling (Circle (toZ w32 radius) (toZ w32 angle) clockwise count) start entries (lent list₀) count) (lent list) made k
 
 abbrev μ-loop : tie.MeasureT-loop
-μ-loop list₀ frame tooling start hits radius angle clockwise count degrees sines cosines made₀ k₀ list made k = count - k
+μ-loop list₀ frame tooling start entries radius angle clockwise count degrees sines cosines made₀ k₀ list made k = count - k
 
 -- the function's entry, seen from the loop's head
 abbrev entry : tie.At-loop Inv-loop μ-loop → tie.Start Inv-loop μ-loop
@@ -33,7 +33,7 @@ entry c = c .before .before .before .before
 abbrev circle : tie.Start Inv-loop μ-loop → Series
 circle c =
     let a = c .args in
-    seriesOf (a .frame) (a .tooling) (Circle (toZ w32 (ofZ w32 (a .radius))) (toZ w32 (ofZ w32 (a .angle))) (a .clockwise) (a .count)) (a .start) (a .hits) (lent (a .list .now)) (a .count)
+    seriesOf (a .frame) (a .tooling) (Circle (toZ w32 (ofZ w32 (a .radius))) (toZ w32 (ofZ w32 (a .angle))) (a .clockwise) (a .count)) (a .start) (a .entries) (lent (a .list .now)) (a .count)
 
 -- a turn of the loop, seen from its place
 abbrev turn : tie.After-arc-place Inv-loop μ-loop → tie.In-loop Inv-loop μ-loop
@@ -83,7 +83,7 @@ returns-2 c =
     let l = c .before in
     let e = entry l in
     simp (toZ-ofZ (e .fits .radius), toZ-ofZ (e .fits .angle)) at
-    (under-end (circle e) (record { number = l .loop .made .number; current = e .args .start; hits = l .loop .made .hits }) (l .loop .inv .1) (c .loop-test .left) refl (l .loop .inv .1 .passed) (λ g. refl))
+    (under-end (circle e) (record { number = l .loop .made .number; current = e .args .start; entries = l .loop .made .entries }) (l .loop .inv .1) (c .loop-test .left) refl (l .loop .inv .1 .passed) (λ g. refl))
 
 pub punch-circle-spec : {M : Type 1} → statement M
 punch-circle-spec =

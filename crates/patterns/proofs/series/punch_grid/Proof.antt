@@ -19,13 +19,13 @@ use Rattle.patterns.proofs.series.punch_grid.Statement.{statement}
 use Rattle.patterns.proofs.series.punch_grid.Tie as tie
 
 abbrev Inv-loop : tie.InvT-loop
-Inv-loop list₀ frame tooling start hits vertical pitch steps count last made₀ cursor₀ k₀ list made cursor k =
+Inv-loop list₀ frame tooling start entries vertical pitch steps count last made₀ cursor₀ k₀ list made cursor k =
     (length list ≡ length list₀)
     × (cursor ≡ cursorAt last k)
-    × UnderWay (seriesOf frame tooling (Grid vertical pitch steps) start hits (lent list₀) count) (lent list) made k
+    × UnderWay (seriesOf frame tooling (Grid vertical pitch steps) start entries (lent list₀) count) (lent list) made k
 
 abbrev μ-loop : tie.MeasureT-loop
-μ-loop list₀ frame tooling start hits vertical pitch steps count last made₀ cursor₀ k₀ list made cursor k =
+μ-loop list₀ frame tooling start entries vertical pitch steps count last made₀ cursor₀ k₀ list made cursor k =
     count - k
 
 -- the function's entry, seen from the loop's head
@@ -35,7 +35,7 @@ entry c = c .before .before .before .before
 abbrev grid : tie.After-grid-hits Inv-loop μ-loop → Series
 grid c =
     let a = c .before .args in
-    seriesOf (a .frame) (a .tooling) (Grid (a .vertical) (a .pitch) (a .steps)) (a .start) (a .hits) (lent (a .list .now)) (c .grid-hits .result)
+    seriesOf (a .frame) (a .tooling) (Grid (a .vertical) (a .pitch) (a .steps)) (a .start) (a .entries) (lent (a .list .now)) (c .grid-hits .result)
 
 -- the steps are of 16 bits
 steps-fit : (c : tie.Start Inv-loop μ-loop) → (c .args .steps .x < 65536) × (c .args .steps .y < 65536)

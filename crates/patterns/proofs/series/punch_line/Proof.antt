@@ -20,12 +20,12 @@ use Rattle.patterns.proofs.series.punch_line.Statement.{statement}
 use Rattle.patterns.proofs.series.punch_line.Tie as tie
 
 abbrev Inv-loop : tie.InvT-loop
-Inv-loop list₀ frame tooling start hits pitch angle count direction made₀ k₀ list made k =
+Inv-loop list₀ frame tooling start entries pitch angle count direction made₀ k₀ list made k =
     (length list ≡ length list₀)
-    × UnderWay (seriesOf frame tooling (Line (toZ w32 pitch) (toZ w32 angle) count) start hits (lent list₀) count) (lent list) made k
+    × UnderWay (seriesOf frame tooling (Line (toZ w32 pitch) (toZ w32 angle) count) start entries (lent list₀) count) (lent list) made k
 
 abbrev μ-loop : tie.MeasureT-loop
-μ-loop list₀ frame tooling start hits pitch angle count direction made₀ k₀ list made k = count - k
+μ-loop list₀ frame tooling start entries pitch angle count direction made₀ k₀ list made k = count - k
 
 -- the function's entry, seen from the loop's head
 abbrev entry : tie.At-loop Inv-loop μ-loop → tie.Start Inv-loop μ-loop
@@ -35,7 +35,7 @@ entry c = c .before .before
 abbrev line : tie.Start Inv-loop μ-loop → Series
 line c =
     let a = c .args in
-    seriesOf (a .frame) (a .tooling) (Line (toZ w32 (ofZ w32 (a .pitch))) (toZ w32 (ofZ w32 (a .angle))) (a .count)) (a .start) (a .hits) (lent (a .list .now)) (a .count)
+    seriesOf (a .frame) (a .tooling) (Line (toZ w32 (ofZ w32 (a .pitch))) (toZ w32 (ofZ w32 (a .angle))) (a .count)) (a .start) (a .entries) (lent (a .list .now)) (a .count)
 
 -- the place of a hit
 place-is : (c : tie.After-line-place Inv-loop μ-loop)

@@ -25,7 +25,7 @@ places-fit : (c : tie.Start) → c .args .frame .job .places < 18446744073709551
 places-fit c = omega arith
 
 -- a hit that is made
-is-made : (c : tie.After-judged2) → Made (c .judged2 .given .0 .0) ≡ judgedHit (entry (c .before .before .before) .args .frame) (point (c .before .before .before)) (entry (c .before .before .before) .args .tooling .tool) (entry (c .before .before .before) .args .from .hits)
+is-made : (c : tie.After-judged2) → Made (c .judged2 .given .0 .0) ≡ judgedHit (entry (c .before .before .before) .args .frame) (point (c .before .before .before)) (entry (c .before .before .before) .args .tooling .tool) (entry (c .before .before .before) .args .from .entries)
 is-made c = sym (c .judged2 .given .1) ∙ c .before .before .before .hit .ensures .0
 
 add-t14 : tie.Need-add-t14
@@ -33,7 +33,7 @@ add-t14 c =
     let j = c .before in
     let h = j .before .before .before in
     let a = entry h .args in
-    omega (arith, places-fit (entry h), hit-fits (a .frame) (point h) (a .tooling .tool) (a .from .hits) (j .judged2 .given .0 .0) (is-made j))
+    omega (arith, places-fit (entry h), hit-fits (a .frame) (point h) (a .tooling .tool) (a .from .entries) (j .judged2 .given .0 .0) (is-made j))
 
 returns : tie.Need-returns
 returns c =
@@ -43,8 +43,8 @@ returns c =
     let a = entry h .args in
     let number = j .judged .given .0 .0 in
     let is = sym (j .judged .given .1) ∙ h .hit .ensures .0 in
-    rw (status-refused number line (refusal-positive (a .frame) (point h) (a .tooling .tool) (a .from .hits) number is))
-    (punch-refused (a .frame) line (point h) (come g (a .tooling) (a .from .current) (a .from .hits)) number is)
+    rw (status-refused number line (refusal-positive (a .frame) (point h) (a .tooling .tool) (a .from .entries) number is))
+    (punch-refused (a .frame) line (point h) (come g (a .tooling) (a .from .current) (a .from .entries)) number is)
 
 returns-2 : tie.Need-returns-2
 returns-2 c =
@@ -52,7 +52,7 @@ returns-2 c =
     let j = c .before in
     let h = j .before .before .before in
     let a = entry h .args in
-    punch-made (a .frame) line (point h) (come g (a .tooling) (a .from .current) (a .from .hits)) (j .judged2 .given .0 .0) (is-made j)
+    punch-made (a .frame) line (point h) (come g (a .tooling) (a .from .current) (a .from .entries)) (j .judged2 .given .0 .0) (is-made j)
     (rw (j .judged2 .given .1) at (h .hit .ensures .1))
 
 pub punch-next-spec : {M : Type 1} → statement M

@@ -23,12 +23,12 @@ use Rattle.patterns.proofs.series.punch_shear.Statement.{statement}
 use Rattle.patterns.proofs.series.punch_shear.Tie as tie
 
 abbrev Inv-loop : tie.InvT-loop
-Inv-loop list₀ frame tooling start hits angle cut count made₀ k₀ list made k =
+Inv-loop list₀ frame tooling start entries angle cut count made₀ k₀ list made k =
     (length list ≡ length list₀)
-    × ((shear : Shear) → isFit shear ≡ true → cut ≡ cutOf angle shear → UnderWay (seriesOf frame tooling (pattern.Shear angle shear) start hits (lent list₀) count) (lent list) made k)
+    × ((shear : Shear) → isFit shear ≡ true → cut ≡ cutOf angle shear → UnderWay (seriesOf frame tooling (pattern.Shear angle shear) start entries (lent list₀) count) (lent list) made k)
 
 abbrev μ-loop : tie.MeasureT-loop
-μ-loop list₀ frame tooling start hits angle cut count made₀ k₀ list made k = count - k
+μ-loop list₀ frame tooling start entries angle cut count made₀ k₀ list made k = count - k
 
 -- the function's entry, seen from the loop's head
 abbrev entry : tie.At-loop Inv-loop μ-loop → tie.Start Inv-loop μ-loop
@@ -48,7 +48,7 @@ module _ (c : tie.Start Inv-loop μ-loop) where
 abbrev edge : tie.At-loop Inv-loop μ-loop → Shear → Series
 edge c shear =
     let a = entry c .args in
-    seriesOf (a .frame) (a .tooling) (pattern.Shear (a .angle) shear) (a .start) (a .hits) (lent (a .list .now)) (c .before .prepare .result .hits)
+    seriesOf (a .frame) (a .tooling) (pattern.Shear (a .angle) shear) (a .start) (a .entries) (lent (a .list .now)) (c .before .prepare .result .hits)
 
 -- the loop's head, seen from a place
 abbrev head : tie.After-place Inv-loop μ-loop → tie.At-loop Inv-loop μ-loop
@@ -77,7 +77,7 @@ prepare-requires c κs = search needs
 loop-holds : tie.Need-loop-holds Inv-loop μ-loop
 loop-holds c =
     let a = c .before .args in
-    (refl, λ shear fit e. under-start (seriesOf (a .frame) (a .tooling) (pattern.Shear (a .angle) shear) (a .start) (a .hits) (lent (a .list .now)) (c .prepare .result .hits)))
+    (refl, λ shear fit e. under-start (seriesOf (a .frame) (a .tooling) (pattern.Shear (a .angle) shear) (a .start) (a .entries) (lent (a .list .now)) (c .prepare .result .hits)))
 
 place-requires : tie.Need-place-requires Inv-loop μ-loop
 place-requires c κs =
@@ -128,7 +128,7 @@ returns-2 c =
     let l = c .before in
     let s = entry l in
     let under = l .loop .inv .1 (s .args .shear) (s .pre) (l .before .prepare .ensures) in
-    under-end (edge l (s .args .shear)) (record { number = 0; current = s .args .start; hits = l .loop .made .hits }) under (c .loop-test .left) (count-is l) refl (λ g. refl)
+    under-end (edge l (s .args .shear)) (record { number = 0; current = s .args .start; entries = l .loop .made .entries }) under (c .loop-test .left) (count-is l) refl (λ g. refl)
 
 pub punch-shear-spec : {M : Type 1} → statement M
 punch-shear-spec =

@@ -15,23 +15,23 @@ use borrow.Author.Needs.{needs}
 use Rattle.press.proofs.hits.hit.Statement.{statement}
 use Rattle.press.proofs.hits.hit.Tie as tie
 
--- the function's entry, seen from its tests
-abbrev entry : tie.After-covers → tie.Start
-entry c = c .before .before
+-- the function's start, seen from its tests
+abbrev start : tie.After-covers → tie.Start
+start c = c .before .before .before
 
 abbrev point : tie.After-covers → Point
-point c = pointOf (entry c .args .place)
+point c = pointOf (start c .args .place)
 
 -- a tool is chosen
-has-tool : (c : tie.After-covers) → ltb 0 (entry c .args .tool) ≡ true
-has-tool c = lt-ltb 0 (entry c .args .tool) (omega arith)
+has-tool : (c : tie.After-covers) → ltb 0 (start c .args .tool) ≡ true
+has-tool c = lt-ltb 0 (start c .args .tool) (omega arith)
 
 -- 15 or 16, out of the range
 which : (n : Bool) → Refused (cond n 16 15) ≡ cond n (Refused 16) (Refused 15)
 which true = refl
 which false = refl
 
-is-inside : (c : tie.Else2) → inRange (entry (c .before) .args .frame) (point (c .before)) ≡ true
+is-inside : (c : tie.Else2) → inRange (start (c .before) .args .frame) (point (c .before)) ≡ true
 is-inside c = sym (c .before .covers .ensures) ∙ not-false (c .before .covers .result) (c .if2 .left)
 
 -- the answer of 15 has the point
@@ -40,10 +40,14 @@ is-located c =
     let l = c .before .before in
     located-at (point (l .before .before)) (c .located2 .given .0 .0) (sym (c .located2 .given .1) ∙ l .located .ensures)
 
+-- where the point lies, seen from `enter`
+abbrev located-of : tie.After-enter → tie.After-located2
+located-of f = f .before .before .before
+
 returns : tie.Need-returns
 unfolding judgedHit
 returns c =
-    (simp (le-ltb 0 (c .before .args .tool) (omega arith)), refl)
+    (simp (le-ltb 0 (c .before .before .args .tool) (omega arith)), refl)
 
 covers-requires : tie.Need-covers-requires
 covers-requires c κs = search needs
@@ -70,13 +74,16 @@ enum-known-located c = search needs
 returns-3 : tie.Need-returns-3
 unfolding judgedHit
 returns-3 c =
-    let l = c .before .before in
+    let f = c .before .before in
+    let l = located-of f in
     let e = l .before .before .before in
-    let a = entry (e .before) .args in
-    (simp (has-tool (e .before), is-located l .0, is-inside e, le-ltb (a .hits) (a .frame .job .places) (c .if3 .taken)), refl)
+    let none : f .enter .result ≡ false = not-true (f .enter .result) (c .if3 .taken) in (
+      simp (has-tool (e .before), is-located l .0, is-inside e, sym (f .enter .ensures .0) ∙ none),
+      rw none at (f .enter .ensures .1),
+    )
 
-put-hit-requires : tie.Need-put-hit-requires
-put-hit-requires c κs = search needs
+enter-requires : tie.Need-enter-requires
+enter-requires c κs = search needs
 
 returns-4 : tie.Need-returns-4
 unfolding judgedHit
@@ -88,15 +95,18 @@ returns-4 c =
 same-length : tie.Need-same-length
 same-length c = search needs
 
+same-length-2 : tie.Need-same-length-2
+same-length-2 c = search needs
+
 returns-5 : tie.Need-returns-5
 unfolding judgedHit
 returns-5 c =
-    let t = c .before .before .before in
-    let l = t .before .before in
+    let f = c .before .before in
+    let l = located-of f in
     let e = l .before .before .before in
-    let a = entry (e .before) .args in (
-      rw (is-located l .1) (simp (has-tool (e .before), is-located l .0, is-inside e, lt-ltb (a .hits) (a .frame .job .places) (t .if3 .left))),
-      c .before .put-hit .ensures,
+    let made : f .enter .result ≡ true = not-false (f .enter .result) (c .if3 .left) in (
+      rw (is-located l .1) (simp (has-tool (e .before), is-located l .0, is-inside e, sym (f .enter .ensures .0) ∙ made)),
+      rw made at (f .enter .ensures .1),
     )
 
 pub hit-spec : {M : Type 1} → statement M
@@ -110,8 +120,9 @@ hit-spec =
     located-requires
     enum-told
     enum-known-located
-    returns-3
-    put-hit-requires
-    returns-4
+    enter-requires
     same-length
+    returns-3
+    returns-4
+    same-length-2
     returns-5)

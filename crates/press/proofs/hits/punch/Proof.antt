@@ -11,19 +11,19 @@ use borrow.Author.Needs.{needs}
 use Rattle.press.proofs.hits.punch.Statement.{statement}
 use Rattle.press.proofs.hits.punch.Tie as tie
 
--- the function's entry, seen from the hit
-abbrev entry : tie.After-hit → tie.Start
-entry c = c .before .before .before
+-- the function's start, seen from the hit
+abbrev start : tie.After-hit → tie.Start
+start c = c .before .before .before
 
 abbrev point : tie.After-hit → Point
-point c = pointOf (entry c .args .place)
+point c = pointOf (start c .args .place)
 
 -- the places of the job are of 64 bits
 places-fit : (c : tie.Start) → c .args .frame .job .places < 18446744073709551616
 places-fit c = omega arith
 
 -- a hit that is made
-is-made : (c : tie.After-judged2) → Made (c .judged2 .given .0 .0) ≡ judgedHit (entry (c .before .before .before) .args .frame) (point (c .before .before .before)) (entry (c .before .before .before) .args .progress .state .tool) (entry (c .before .before .before) .args .progress .hits)
+is-made : (c : tie.After-judged2) → Made (c .judged2 .given .0 .0) ≡ judgedHit (start (c .before .before .before) .args .frame) (point (c .before .before .before)) (start (c .before .before .before) .args .progress .state .tool) (start (c .before .before .before) .args .progress .entries)
 is-made c = sym (c .judged2 .given .1) ∙ c .before .before .before .hit .ensures .0
 
 hit-requires : tie.Need-hit-requires
@@ -44,8 +44,8 @@ moved-to-requires c κs = search needs
 add-t15 : tie.Need-add-t15
 add-t15 c =
     let j = c .before .before in
-    let a = entry (j .before .before .before) .args in
-    omega (arith, places-fit (entry (j .before .before .before)), hit-fits (a .frame) (pointOf (a .place)) (a .progress .state .tool) (a .progress .hits) (j .judged2 .given .0 .0) (is-made j))
+    let a = start (j .before .before .before) .args in
+    omega (arith, places-fit (start (j .before .before .before)), hit-fits (a .frame) (pointOf (a .place)) (a .progress .state .tool) (a .progress .entries) (j .judged2 .given .0 .0) (is-made j))
 
 passed-requires : tie.Need-passed-requires
 passed-requires c κs = search needs
@@ -57,7 +57,7 @@ returns : tie.Need-returns
 returns c =
     let j = c .before .before in
     let h = j .before .before .before in
-    let a = entry h .args in
+    let a = start h .args in
     rw (c .refused .ensures)
     (punch-refused (a .frame) (a .line) (point h) (a .progress) (j .judged .given .0 .0) (sym (j .judged .given .1) ∙ h .hit .ensures .0))
 
@@ -68,7 +68,7 @@ returns-2 : tie.Need-returns-2
 returns-2 c =
     let j = c .before .before .before in
     let h = j .before .before .before in
-    let a = entry h .args in
+    let a = start h .args in
     rw (c .passed .ensures, c .before .moved-to .ensures)
     (punch-made (a .frame) (a .line) (point h) (a .progress) (j .judged2 .given .0 .0) (is-made j)
     (rw (j .judged2 .given .1) at (h .hit .ensures .1)))

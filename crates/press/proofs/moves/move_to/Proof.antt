@@ -8,7 +8,7 @@ use Rattle.aries.specs.Judging.{near}
 use Rattle.aries.specs.Machine.{inRange}
 use Rattle.aries.specs.Moves.{movedTo, choosing, dropping, withState, target, move}
 use Rattle.aries.specs.WidePoints.{located}
-use Rattle.aries.proofs.Carried.{carried-refused, carried-no-hit}
+use Rattle.aries.proofs.Carried.{carried-refused, carried-no-entry}
 use Rattle.aries.proofs.WidePoints.{located-at, located-far}
 use borrow.Author.Needs.{needs}
 use Rattle.press.proofs.moves.move_to.Statement.{statement}
@@ -111,7 +111,7 @@ returns-3 c =
     let d = e .before in
     let a = entry (before-covers d) .args in
     let inside = sym (covers-is d) ∙ not-false (d .covers .result) (e .if1 .left) in
-    carried-no-hit (a .frame) (λ j. move j (a .frame) (a .line) (a .axes) (a .tool)) {g = a .progress} (rw (moved-is (c .before)) at (c .passed .ensures)) refl
+    carried-no-entry (a .frame) (λ j. move j (a .frame) (a .line) (a .axes) (a .tool)) {g = a .progress} (rw (moved-is (c .before)) at (c .passed .ensures)) refl
     (simp ((is-located (d .before .before) .0), inside))
 
 pub move-to-spec : {M : Type 1} → statement M

@@ -6,7 +6,7 @@ use Rattle.aries.specs.declared.state.Waiting.the-variants.{At}
 use Rattle.aries.specs.Judging.{near}
 use Rattle.aries.specs.Moves.{waitingFor, withState, target, setPatternOrigin}
 use Rattle.aries.specs.WidePoints.{located}
-use Rattle.aries.proofs.Carried.{carried-refused, carried-no-hit}
+use Rattle.aries.proofs.Carried.{carried-refused, carried-no-entry}
 use Rattle.aries.proofs.WidePoints.{located-at, located-far}
 use borrow.Author.Needs.{needs}
 use Rattle.press.proofs.moves.set_pattern_origin.Statement.{statement}
@@ -70,7 +70,7 @@ returns-2 c =
     let a = entry (o .before .before) .args in
     let waits = w .waiting-at .ensures ∙ ap (λ (p : Point). waitingFor (a .progress .state) (At p)) (is-located o .1) in
     let left = c .before .with-state .ensures ∙ ap (withState (a .progress)) waits in
-    carried-no-hit (a .frame) (λ j. setPatternOrigin j (a .frame) (a .line) (a .axes)) {g = a .progress} (rw left at (c .passed .ensures)) refl
+    carried-no-entry (a .frame) (λ j. setPatternOrigin j (a .frame) (a .line) (a .axes)) {g = a .progress} (rw left at (c .passed .ensures)) refl
     (simp (is-located o .0))
 
 pub set-pattern-origin-spec : {M : Type 1} → statement M

@@ -15,7 +15,7 @@ use Rattle.aries.specs.declared.state.Progress.{Progress}
 use Rattle.aries.specs.Reader.{readerOf}
 use Rattle.aries.specs.Judging.{limits, mostBlocks}
 use Rattle.aries.specs.Setup.{ordinaryFrame}
-use Rattle.aries.specs.Hits.{andThen}
+use Rattle.aries.specs.Entries.{andThen}
 use Rattle.aries.specs.Text.{lineFeed}
 use Rattle.text.proofs.Lines.{blanks-inside, next-stop, line-inside, line-goes-on}
 use Rattle.decode.specs.Decoding.{decodedAt}
@@ -143,7 +143,7 @@ returns-4 c =
     let k = line-goes-on t (start (skipped e)) (inside e) (other e) in
     let w = line-inside t (start (skipped e)) (within (skipped e)) in
     turns-settled t (a .at) (a .line) (a .stage) (a .setup) (a .progress) (i .0 .1 .0) (place (skipped e)) (i .0 .0 .block) (c .start .ensures)
-    (ap (λ (g : Progress). g .hits) (n .begun .ensures))
+    (ap (λ (g : Progress). g .entries) (n .begun .ensures))
     (record { further = omega arith; inside = omega arith; numbered = omega arith })
     (λ m.
     skips (skipped e) m

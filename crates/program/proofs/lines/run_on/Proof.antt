@@ -1,4 +1,4 @@
--- What the stretch made, and then by where it stopped.
+-- What the stretch made, and then by what comes after it.
 use mathlib.Core.Path.{_≡_, refl, sym, subst, _∙_}
 use native.Mathlib.Omega.{arith}
 use borrow.Author.Needs.{needs}
@@ -6,15 +6,15 @@ use lib.ListN.{length}
 use Rattle.aries.specs.declared.setup.Stage.the-variants.{Running}
 use Rattle.aries.specs.declared.state.Status.the-variants.{Passed}
 use Rattle.aries.specs.Judging.{limits}
-use Rattle.aries.specs.Runs.{lent, hitsMade, Ran}
+use Rattle.aries.specs.Runs.{lent, entriesMade, Ran}
 use Rattle.aries.specs.Setup.{ordinaryFrame}
-use Rattle.stretches.specs.declared.Stop.{Stop}
-use Rattle.stretches.specs.declared.Stop.the-variants as Stop
-use Rattle.stretches.proofs.Stops.{Stops, stretch-stops}
+use Rattle.stretches.specs.declared.Sequel.{Sequel}
+use Rattle.stretches.specs.declared.Sequel.the-variants as Sequel
+use Rattle.stretches.proofs.Sequels.{SequelBehind, stretch-behind}
 use Rattle.program.specs.Turns.{program, placed}
 use Rattle.program.proofs.RunFrom.{text-end}
 use Rattle.program.proofs.Turns.{comes-beyond}
-use Rattle.program.proofs.Stretches.{here, stretch-refused, stretch-passed, stop-beyond}
+use Rattle.program.proofs.Stretches.{here, stretch-refused, stretch-passed, sequel-beyond}
 use Rattle.program.proofs.lines.run_on.Statement.{statement}
 use Rattle.program.proofs.lines.run_on.Tie as tie
 
@@ -25,18 +25,18 @@ module _ (c : tie.After-run-stretch) where
 
   ran :
       let a = entry .args in
-      Ran hitsMade (a .setup .job) (c .run-stretch .result .outcome .status) (c .run-stretch .result .outcome .progress) (lent (a .list .now)) (lent (c .run-stretch .last .0)) (a .progress .hits)
+      Ran entriesMade (a .setup .job) (c .run-stretch .result .outcome .status) (c .run-stretch .result .outcome .progress) (lent (a .list .now)) (lent (c .run-stretch .last .0)) (a .progress .entries)
       (here (a .text .now) (a .at) (a .line) (a .setup) (a .progress) .made)
   ran = rw (c .before .before .before .frame .ensures) at (c .run-stretch .ensures .ran)
 
-  module _ {x : Stop} (e : c .run-stretch .result .stop ≡ x) where
-    stopped : let a = entry .args in x ≡ here (a .text .now) (a .at) (a .line) (a .setup) (a .progress) .stop
-    stopped = sym e ∙ (rw (c .before .before .before .frame .ensures) at (c .run-stretch .ensures .stopped))
+  module _ {x : Sequel} (e : c .run-stretch .result .sequel ≡ x) where
+    same-sequel : let a = entry .args in x ≡ here (a .text .now) (a .at) (a .line) (a .setup) (a .progress) .sequel
+    same-sequel = sym e ∙ (rw (c .before .before .before .frame .ensures) at (c .run-stretch .ensures .same-sequel))
 
-    behind : let a = entry .args in Stops (a .text .now) (a .at) (a .line) x
+    behind : let a = entry .args in SequelBehind (a .text .now) (a .at) (a .line) x
     behind =
         let a = entry .args in
-        subst (λ (x : Stop). Stops (a .text .now) (a .at) (a .line) x) (sym stopped) (stretch-stops (a .text .now) (limits (a .setup .job)) (ordinaryFrame (a .setup)) (a .at) (a .line) (a .progress))
+        subst (λ (x : Sequel). SequelBehind (a .text .now) (a .at) (a .line) x) (sym same-sequel) (stretch-behind (a .text .now) (limits (a .setup .job)) (ordinaryFrame (a .setup)) (a .at) (a .line) (a .progress))
 
 -- it passed
 module _ (c : tie.After-enum-told) where
@@ -60,31 +60,31 @@ returns-2 c =
     let n = entry r .pre in
     let left = r .run-stretch .result .outcome .progress in
     rw (c .running2 .ensures)
-    (stretch-passed (a .text .now) (a .at) (a .line) (a .setup) (a .progress) (ran r) (passed p) (stopped r (c .before .enum-told2 .given .1))
+    (stretch-passed (a .text .now) (a .at) (a .line) (a .setup) (a .progress) (ran r) (passed p) (same-sequel r (c .before .enum-told2 .given .1))
     (λ m. text-end (limits (a .setup .job)) (a .text .now) (length (a .text .now)) (a .line) (program Running (a .setup) m left) (omega arith)) refl refl
     (record { further = omega arith; inside = omega arith; numbered = omega arith }))
 
 returns-3 : tie.Need-returns-3
 unfolding placed
 returns-3 c =
-    let x = c .before .before .stop .given in
+    let x = c .before .before .sequel .given in
     let p = c .before .before .before .before in
     let r = stretch p in
     let a = entry r .args in
     rw (c .running3 .ensures)
-    (stretch-passed (a .text .now) (a .at) (a .line) (a .setup) (a .progress) (ran r) (passed p) (stopped r (x .1)) (λ m. refl) refl refl
-    (stop-beyond (a .text .now) (a .at) (a .line) (a .setup) (a .progress) (x .0 .1 .0) (x .0 .1 .1 .0) (entry r .pre .numbered) (behind r (x .1))))
+    (stretch-passed (a .text .now) (a .at) (a .line) (a .setup) (a .progress) (ran r) (passed p) (same-sequel r (x .1)) (λ m. refl) refl refl
+    (sequel-beyond (a .text .now) (a .at) (a .line) (a .setup) (a .progress) (x .0 .1 .0) (x .0 .1 .1 .0) (entry r .pre .numbered) (behind r (x .1))))
 
 returns-4 : tie.Need-returns-4
 returns-4 c =
-    let x = c .before .before .stop2 .given in
+    let x = c .before .before .sequel2 .given in
     let p = c .before .before .before .before in
     let r = stretch p in
     let a = entry r .args in
     let s = c .settle .ensures in
-    stretch-passed (a .text .now) (a .at) (a .line) (a .setup) (a .progress) (ran r) (passed p) (stopped r (x .1)) (λ m. s .same (a .text .now) m) (s .hits) (s .job)
+    stretch-passed (a .text .now) (a .at) (a .line) (a .setup) (a .progress) (ran r) (passed p) (same-sequel r (x .1)) (λ m. s .same (a .text .now) m) (s .entries) (s .job)
     (comes-beyond (a .text .now) (a .at) (x .0 .1 .0) (x .0 .1 .1 .0) (c .settle .result .next)
-    (stop-beyond (a .text .now) (a .at) (a .line) (a .setup) (a .progress) (x .0 .1 .0) (x .0 .1 .1 .0) (entry r .pre .numbered) (behind r (x .1)))
+    (sequel-beyond (a .text .now) (a .at) (a .line) (a .setup) (a .progress) (x .0 .1 .0) (x .0 .1 .1 .0) (entry r .pre .numbered) (behind r (x .1)))
     (s .comes))
 
 pub run-on-spec : {M : Type 1} → statement M

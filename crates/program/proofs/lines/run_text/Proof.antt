@@ -9,7 +9,7 @@ use Rattle.aries.specs.declared.block.Outside.the-variants as Outside
 use Rattle.aries.specs.Bodies.{withStored, openBody}
 use Rattle.aries.specs.Judging.{limits}
 use Rattle.aries.specs.Program.{withStore, carryOut, carryOutside}
-use Rattle.aries.specs.Runs.{lent, hitsOfProgram, Ran}
+use Rattle.aries.specs.Runs.{lent, entriesOfProgram, Ran}
 use Rattle.aries.specs.Text.{lines}
 use Rattle.aries.proofs.Runs.{ran-map}
 use Rattle.program.specs.declared.turn.Next.{Next}
@@ -85,8 +85,8 @@ loop-again-2 c =
 
 -- what it leaves
 opened : (c : tie.After-open-body Inv-loop μ-loop) → let f = c .before .before .before in let n = f .next4 .given in let r = f .before .before .before .before .before .run-turn in
-    Ran hitsOfProgram (r .result .setup .job) (c .open-body .result .status) (withStore (at (r .result) (head (f .before .before .before .before .before) .loop .macros)) (withStored (c .open-body .result .macros) (c .open-body .result .progress)))
-    (lent (r .last .0)) (lent (c .open-body .last .0)) (r .result .progress .hits)
+    Ran entriesOfProgram (r .result .setup .job) (c .open-body .result .status) (withStore (at (r .result) (head (f .before .before .before .before .before) .loop .macros)) (withStored (c .open-body .result .macros) (c .open-body .result .progress)))
+    (lent (r .last .0)) (lent (c .open-body .last .0)) (r .result .progress .entries)
     (carried (limits (r .result .setup .job)) (entry (f .before .before .before .before .before) .args .text .now) (n .0 .1 .0) (n .0 .1 .1 .0) (Block.Outside (Outside.Open (n .0 .0))) (at (r .result) (head (f .before .before .before .before .before) .loop .macros)))
 unfolding carryOut carryOutside
 opened c =

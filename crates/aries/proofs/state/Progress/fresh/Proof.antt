@@ -7,7 +7,7 @@ use Rattle.aries.proofs.state.Progress.fresh.Statement.{statement}
 use Rattle.aries.proofs.state.Progress.fresh.Tie as tie
 
 abbrev progress : State → Progress
-progress s = record { state = s; blocks = 0; hits = 0 }
+progress s = record { state = s; blocks = 0; entries = 0 }
 
 fresh-requires : tie.Need-fresh-requires
 fresh-requires c κs = search needs

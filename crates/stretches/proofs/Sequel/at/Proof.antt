@@ -1,7 +1,7 @@
 -- Each arm is that of the definition.
 use borrow.Author.Needs.{needs}
-use Rattle.stretches.proofs.Stop.at.Statement.{statement}
-use Rattle.stretches.proofs.Stop.at.Tie as tie
+use Rattle.stretches.proofs.Sequel.at.Statement.{statement}
+use Rattle.stretches.proofs.Sequel.at.Tie as tie
 
 returns-2 : tie.Need-returns-2
 returns-2 c = simp (c .before .block .given .1)

@@ -5,11 +5,11 @@ use borrow.Author.Needs.{needs}
 use lib.ListN.{length}
 use Rattle.printing.specs.Buffers.{Room}
 use Rattle.printing.specs.Decimals.{decimal}
-use Rattle.printing.specs.Listing.{hitLine}
+use Rattle.printing.specs.Listing.{entryLine}
 use Rattle.printing.proofs.Buffers.{put-then}
 use Rattle.printing.proofs.Decimals.{decimal-word}
-use Rattle.printing.proofs.line.put_hit.Statement.{statement}
-use Rattle.printing.proofs.line.put_hit.Tie as tie
+use Rattle.printing.proofs.line.put_entry.Statement.{statement}
+use Rattle.printing.proofs.line.put_entry.Tie as tie
 
 -- the index is a word
 index-digits : (s : tie.Start) → length (decimal (s .args .i + 1)) ≤ 20
@@ -25,7 +25,7 @@ put-decimal-requires c κs =
     record { fits = omega (arith, index-digits s); inside = search needs }
 
 returns : tie.Need-returns
-unfolding hitLine
+unfolding entryLine
 returns c =
     let i = c .before .before in
     let x = i .before .before .before .before in
@@ -41,8 +41,8 @@ returns c =
       omega (arith, mode .placed, tool .1, py .1, px .1, index .placed, index-digits (m .before .before .before)),
     )
 
-pub put-hit-spec : {M : Type 1} → statement M
-put-hit-spec =
+pub put-entry-spec : {M : Type 1} → statement M
+put-entry-spec =
     tie.close
     (tie.spec
     (λ c. search needs)

@@ -1,4 +1,4 @@
--- The invariant: the lines of the hits that are left are left to be put, and have room. Assumes nothing.
+-- The invariant: the lines of the entries that are left are left to be put, and have room. Assumes nothing.
 use mathlib.Core.Path.{_≡_, refl, _∙_}
 use mathlib.Core.List.{List, _++_}
 use Prim.Native.Nat.{ℕ, zero, suc, _+_, _-_, _*_, _≤_, _<_}
@@ -7,14 +7,14 @@ use borrow.Author.Needs.{needs}
 use lib.IntN.{ℤ}
 use lib.ListN.{length}
 use Rattle.printing.specs.Buffers.{Room}
-use Rattle.printing.specs.Listing.{hitLine, hitLines, longestLine}
+use Rattle.printing.specs.Listing.{entryLine, entryLines, longestLine}
 use Rattle.printing.proofs.Buffers.{Left, left-all, left-then, left-put, put-nothing}
-use Rattle.printing.proofs.put_hits.Statement.{statement}
-use Rattle.printing.proofs.put_hits.Tie as tie
+use Rattle.printing.proofs.put_entries.Statement.{statement}
+use Rattle.printing.proofs.put_entries.Tie as tie
 
 abbrev Inv-loop : tie.InvT-loop
 Inv-loop out₀ list count at₀ left₀ out at left =
-    Left (hitLines list left) (hitLines list count) (length out₀) out₀ at out
+    Left (entryLines list left) (entryLines list count) (length out₀) out₀ at out
     × (length out ≡ length out₀)
     × (longestLine * suc left ≤ at)
 
@@ -22,26 +22,26 @@ abbrev μ-loop : tie.MeasureT-loop
 μ-loop out₀ list count at₀ left₀ out at left = left
 
 -- the last line of some, and those before it
-last-line : (list : List ℤ) (n : ℕ) → 0 < n → hitLines list n ≡ hitLines list (n - 1) ++ hitLine list (n - 1)
-unfolding hitLines
+last-line : (list : List ℤ) (n : ℕ) → 0 < n → entryLines list n ≡ entryLines list (n - 1) ++ entryLine list (n - 1)
+unfolding entryLines
 last-line list zero h = absurd (omega arith)
 last-line list (suc n) h = let e : suc n - 1 ≡ n = omega arith in rw e
 
 -- no line
-no-line : (list : List ℤ) (n : ℕ) → n ≤ 0 → hitLines list n ≡ hitLines list 0
+no-line : (list : List ℤ) (n : ℕ) → n ≤ 0 → entryLines list n ≡ entryLines list 0
 no-line list zero h = refl
 no-line list (suc n) h = absurd (omega arith)
 
 loop-holds : tie.Need-loop-holds Inv-loop μ-loop
 loop-holds c =
     let a = c .before .args in
-    (left-all (hitLines (a .list .now) (a .count)) (a .out .now) (length (a .out .now)), refl, c .before .pre)
+    (left-all (entryLines (a .list .now) (a .count)) (a .out .now) (length (a .out .now)), refl, c .before .pre)
 
 sub-left : tie.Need-sub-left Inv-loop μ-loop
 sub-left c = search needs
 
-put-hit-requires : tie.Need-put-hit-requires Inv-loop μ-loop
-put-hit-requires c κs =
+put-entry-requires : tie.Need-put-entry-requires Inv-loop μ-loop
+put-entry-requires c κs =
     let p = c .before .before .loop in
     record { fits = omega (arith, p .inv .2); inside = omega (arith, p .inv .0 .earlier, p .inv .1) }
 
@@ -51,7 +51,7 @@ loop-less c = search needs
 loop-again : tie.Need-loop-again Inv-loop μ-loop
 loop-again c =
     let p = c .before .before .before .before .before .loop in
-    let f = c .before .before .put-hit in
+    let f = c .before .before .put-entry in
     let a = c .before .before .before .before .before .before .before .args in
     let h : 0 < p .left = omega arith in (
       left-then (rw (last-line (a .list .now) (p .left) h) at (p .inv .0)) (f .ensures .0),
@@ -63,22 +63,22 @@ same-length : tie.Need-same-length Inv-loop μ-loop
 same-length c = c .before .loop .inv .1
 
 returns : tie.Need-returns Inv-loop μ-loop
-unfolding hitLines
+unfolding entryLines
 returns c =
     let p = c .before .loop in
     let a = c .before .before .before .args in
     let h : p .left ≤ 0 = omega arith in
     (left-put (rw (no-line (a .list .now) (p .left) h) at (p .inv .0)) (put-nothing (p .out) (p .at)), omega (arith, p .inv .2))
 
-pub put-hits-spec : {M : Type 1} → statement M
-put-hits-spec =
+pub put-entries-spec : {M : Type 1} → statement M
+put-entries-spec =
     tie.close
     (tie.spec
     Inv-loop
     μ-loop
     loop-holds
     sub-left
-    put-hit-requires
+    put-entry-requires
     loop-less
     loop-again
     same-length

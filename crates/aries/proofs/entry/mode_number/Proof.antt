@@ -1,6 +1,6 @@
 -- Each mode has its number. Assumes nothing.
-use Rattle.press.proofs.hits.mode_number.Statement.{statement}
-use Rattle.press.proofs.hits.mode_number.Tie as tie
+use Rattle.aries.proofs.entry.mode_number.Statement.{statement}
+use Rattle.aries.proofs.entry.mode_number.Tie as tie
 
 returns : tie.Need-returns
 returns c = simp (c .if1 .taken)

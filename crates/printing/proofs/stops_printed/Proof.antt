@@ -1,0 +1,15 @@
+-- By computation. Assumes nothing.
+use mathlib.Core.Path.{refl}
+use Rattle.aries.specs.Text.{bytes}
+use Rattle.aries.specs.Program.{expand, listOf}
+use Rattle.printing.specs.Decimals.{digits, decimal, signedDecimal}
+use Rattle.printing.specs.Listing.{entryLine, entryLines, headLine, listing}
+use Rattle.printing.proofs.stops_printed.Statement.{statement}
+use Rattle.printing.proofs.stops_printed.Tie as tie
+
+returns : tie.Need-returns
+unfolding bytes expand listOf digits decimal signedDecimal entryLine entryLines headLine listing
+returns c = refl
+
+pub stops-printed-spec : {M : Type 1} → statement M
+stops-printed-spec = tie.close (tie.spec returns)
