@@ -15,7 +15,7 @@ ROOT = os.path.dirname(os.path.dirname(os.path.dirname(os.path.abspath(__file__)
 PROGRAM = sys.argv[1] if len(sys.argv) > 1 else os.path.join(ROOT, 'target/bin/hitlist')
 HEAD = b'G92X600.Y600.\nX1.Y1.T1\n'
 PLATE = HEAD + b'G50\n'
-LISTING = b'HITS 1\n1 100 100 1 P\n'
+LISTING = b'ENTRIES 1\n1 100 100 1 P\n'
 # 4,096 hits: one, and a grid of 64 by 64 without its start
 LONG = HEAD + b'G36I1.P63J1.K63\nG50\n'
 USAGE = b'usage: hitlist [PLATE]\n'
@@ -57,7 +57,7 @@ def writes():
     fcntl.fcntl(writer, fcntl.F_SETPIPE_SZ, 4096)
     look('output that does not wait', run(text=LONG, stdout=writer)[1], cut(b'Resource temporarily unavailable'))
     os.close(writer)
-    look('what it took', os.read(reader, 10), b'HITS 4096\n')
+    look('what it took', os.read(reader, 13), b'ENTRIES 4096\n')
     os.close(reader)
 
 
@@ -106,10 +106,10 @@ def lengths():
     for count in 0, 1, 2, 100, 127, 128, 1023, 1024, 2000, 4095:
         blocks = b'X1.Y1.T1\n' * count
         lines = run(text=b'G92X600.Y600.\n' + blocks + b'G50\n')[0].split(b'\n')
-        look('%d hits' % count, (lines[0], len(lines)), (b'HITS %d' % count, count + 2))
+        look('%d entries' % count, (lines[0], len(lines)), (b'ENTRIES %d' % count, count + 2))
     lines = run(text=LONG)[0].split(b'\n')
-    look('4,096 hits', (lines[0], lines[4096], len(lines)), (b'HITS 4096', b'4096 100 6400 1 P', 4098))
-    look('4,097 hits', run(text=LONG.replace(b'G50', b'X1.\nG50'))[0], b'REFUSED 17 LINE 4\n')
+    look('4,096 entries', (lines[0], lines[4096], len(lines)), (b'ENTRIES 4096', b'4096 100 6400 1 P', 4098))
+    look('4,097 entries', run(text=LONG.replace(b'G50', b'X1.\nG50'))[0], b'REFUSED 17 LINE 4\n')
 
 
 for part in writes, reads, names, lengths:

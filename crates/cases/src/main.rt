@@ -10,7 +10,7 @@ ghost use Rattle.aries.specs.Program.{countOf};
 // What is read of a file: one byte more than a text may have is enough to refuse it.
 const MOST_READ: usize = 60_001;
 
-// The numbers of the longest list, which has places for 4,096 hits.
+// The numbers of the longest list, which has places for 4,096 entries.
 const NUMBERS: usize = 16_384;
 
 // The least setting, and its size, one more than that of the greatest.
@@ -35,7 +35,7 @@ fn print_through(out: &mut [u8], list: &[i32], answer: Answer)
     io::write_all(STDOUT_FILENO, &out[start..]);
 }
 
-// Prints a listing of up to 4,096 hits, or a refusal.
+// Prints a listing of up to 4,096 entries, or a refusal.
 fn print_listing(list: &[i32], answer: Answer)
     requires { ⌜ countOf answer ≤ 4096 ⌝ }
 {
