@@ -71,8 +71,10 @@ example('a-and-b', 'X50. Y50. T2/A1 G28 I10. J90. K2 T3/G70 X100. Y50./B1/X150. 
         'the memory holds the line without its tool')
 example('m12-m13', 'X10. Y10. T9/M12/X20./G28 I5. J0 K2/M13/X40.', all_of(P(1000, 1000, 9), N(2000, 1000, 9), N(2500, 1000, 9), N(3000, 1000, 9), P(4000, 1000, 9)),
         'mode N from M12 to M13, in patterns too')
-example('m00-m01-m08-m09', 'X10. Y10. T1/M0/G72 X50. Y50./M08/G28 I10. J0 K1/M09/M01', all_of(P(1000, 1000, 1), P(6000, 5000, 1)),
-        'they change nothing; M0 is M00')
+example('m00-m01', 'M01/X10. Y10. T1/G72 X50. Y50./M12/M0/G28 I10. J0 K2', all_of(OPTIONAL, P(1000, 1000, 1), STOP, N(6000, 5000, 1), N(7000, 5000, 1)),
+        'a stop needs no tool; the waiting origin and mode N stay; M0 is M00')
+example('m08-m09', 'X10. Y10. T1/G72 X50. Y50./M8/G28 I10. J0 K1/M09', all_of(P(1000, 1000, 1), P(6000, 5000, 1)),
+        'they change nothing; M8 is M08')
 example('u-v-w', 'U1/X10. Y10. T5/G91 X5./V1/U60/G90 Y50./W1/V60/W60',
         all_of(P(1000, 1000, 5), P(1500, 1000, 5), P(1500, 5000, 5), P(1000, 1000, 5), P(1500, 1000, 5)),
         'macro 1 runs where it is stored, macro 60 when it is called')

@@ -1,5 +1,5 @@
 """The sample plates: what their drawings ask for, worked out from the dimensions in plates/README.md and not from the
-programs, hole after hole in the order of punching."""
+programs, entry after entry in the order of punching."""
 import math
 import os
 from table import *
@@ -8,19 +8,20 @@ PLATES = os.path.join(os.path.dirname(os.path.abspath(__file__)), '../../../plat
 
 
 class Drawing:
-    """Outer size, where the plate's lower left corner lies on the sheet, and the holes from that corner: X, Y, tool, mode.
-    In the same way the hits of rectangular tools that cut its edges, which come after the holes.
+    """Outer size, where the plate's lower left corner lies on the sheet, and groups of entries in their order: holes and the
+    hits of rectangular tools that cut edges, X, Y, tool, mode, measured from that corner, and stops. A window is its lower
+    left corner, measured so too, and its size.
 
-    Sizes are in millimetres, holes in hundredths."""
+    Sizes are in millimetres, hits in hundredths."""
 
-    def __init__(self, size, corner, *groups, edges=()):
-        self.size, self.corner = size, corner
-        self.holes = [hole for group in groups for hole in group]
-        self.cuts = [cut for edge in edges for cut in edge]
+    def __init__(self, size, corner, *groups, windows=()):
+        self.size, self.corner, self.windows = size, corner, windows
+        self.drawn = [entry for group in groups for entry in group]
 
-    def hits(self):
+    def entries(self):
+        """On the sheet: hits are moved by the corner's place, stops stay as they are."""
         left, low = whole(self.corner[0]), whole(self.corner[1])
-        return [(left + x, low + y, tool, mode) for x, y, tool, mode in self.holes + self.cuts]
+        return [entry if entry in (STOP, OPTIONAL) else (left + entry[0], low + entry[1]) + entry[2:] for entry in self.drawn]
 
 
 def whole(millimetres):
@@ -75,6 +76,13 @@ def edge(tool, first, last, count):
     return holes(tool, *((between(first[0], last[0], k), between(first[1], last[1], k)) for k in range(count)))
 
 
+def window(place):
+    """The edges of a window of 120 x 80, cut from inside: lower, upper, right, left; and the stop to lift its scrap."""
+    x, y = place
+    return (edge(10, (x + 25, y + 2.5), (x + 95, y + 2.5), 3) + edge(10, (x + 95, y + 77.5), (x + 25, y + 77.5), 3)
+            + edge(11, (x + 117.5, y + 25), (x + 117.5, y + 55), 2) + edge(11, (x + 2.5, y + 55), (x + 2.5, y + 25), 2) + [STOP])
+
+
 def tube(place):
     """A tube's hole, and four for its clips around it."""
     return holes(14, place) + ring(3, place, 17.5, 45, 90, 4)
@@ -101,11 +109,17 @@ DRAWINGS = {
     'cut-out-rack': Drawing(
         (127.76, 85.48), (100, 100),
         rows(2, (14.38, 11.24), 9, 12, 8),
-        edges=(
-            edge(11, (-2.5, 25.15), (-2.5, 60.33), 2),
-            edge(11, (130.26, 60.33), (130.26, 25.15), 2),
-            edge(10, (25.15, 87.98), (102.61, 87.98), 3),
-            edge(10, (102.61, -2.5), (25.15, -2.5), 3))),
+        edge(11, (-2.5, 25.15), (-2.5, 60.33), 2),
+        edge(11, (130.26, 60.33), (130.26, 25.15), 2),
+        edge(10, (25.15, 87.98), (102.61, 87.98), 3),
+        edge(10, (102.61, -2.5), (25.15, -2.5), 3)),
+    'window-panel': Drawing(
+        (300, 140), (100, 100),
+        window((20, 30)),
+        window((160, 30)),
+        [OPTIONAL],
+        corners(5, (10, 10), 280, 120),
+        windows=((20, 30, 120, 80), (160, 30, 120, 80))),
     'tip-rack': Drawing(
         (127.76, 85.48), (200, 150),
         columns(3, (12.13, 8.99), 4.5, 24, 16),
@@ -126,10 +140,11 @@ DRAWINGS = {
         ring(4, (300, 300), 30, 0, -60, 6),
         holes(4, *((60 + 15 * k, 430) for k in range(12))),
         ring(4, (142.5, 400), 45, 180, 22.5, 9),
-        slot(9, (690, 470), 2.5, -30, 24)),
+        slot(9, (690, 470), 2.5, -30, 24),
+        [STOP]),
 }
 
 for name, drawing in DRAWINGS.items():
     with open(os.path.join(PLATES, name + '.nc'), 'rb') as file:
-        case('samples-' + name, file.read(), all_of(*drawing.hits()),
-             'plates/README.md: the holes of the drawing, in the order of punching')
+        case('samples-' + name, file.read(), all_of(*drawing.entries()),
+             'plates/README.md: the hits and stops of the drawing, in the order of punching')

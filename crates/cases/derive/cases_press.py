@@ -47,7 +47,7 @@ case('origin-outside-the-range', p('G72X700.Y300./G28I-100.J0K1T1/G72X-500.Y300.
 # ---------------------------------------------------------------- patterns
 
 case('patterns-ends', p('X100.Y100.T1/G28I10.J0K2/G91Y1./G90X100.Y100./G29I10.J0P90.K2/G91Y1./G90X100.Y100./G26I10.J0K2/G91Y1./G90X100.Y100./G36I10.P1J10.K2/G91Y1./G90X100.Y100./G37I10.P2J10.K1/G91Y1.'),
-     H(4 + 4 + 4 + 7 + 7, {4: P(12000, 10100), 8: P(10000, 11100), 12: P(10000, 10100), 19: P(11000, 12100), 26: P(12000, 11100)}),
+     E(4 + 4 + 4 + 7 + 7, {4: P(12000, 10100), 8: P(10000, 11100), 12: P(10000, 10100), 19: P(11000, 12100), 26: P(12000, 11100)}),
      'G28 and G29 end at the last hit, G26 at its start, a grid at its last place')
 case('patterns-g36-order-even-and-odd', p('X10.Y10.T1/G36I1.P2J2.K2'),
      all_of(P(1000, 1000), P(1100, 1000), P(1200, 1000), P(1200, 1200), P(1100, 1200), P(1000, 1200), P(1000, 1400), P(1100, 1400), P(1200, 1400)),
@@ -65,7 +65,7 @@ case('patterns-g29-step-backwards-and-past-a-turn', p('G72X100.Y100./G29I10.J90.
 case('patterns-g26-both-ways-round', p('G72X100.Y100./G26I10.J0K4T1/G72X100.Y100./G26I10.J0K-4T2'),
      all_of(P(11000, 10000), P(10000, 11000), P(9000, 10000), P(10000, 9000), P(11000, 10000, 2), P(10000, 9000, 2), P(9000, 10000, 2), P(10000, 11000, 2)),
      'K negative: the turn is taken off')
-case('patterns-g26-seven-holes', p('G72X300.Y300./G26I100.J0K7T1'), H(7, {1: P(40000, 30000), 2: P(36235, 37818), 7: P(36235, 22182)}),
+case('patterns-g26-seven-holes', p('G72X300.Y300./G26I100.J0K7T1'), E(7, {1: P(40000, 30000), 2: P(36235, 37818), 7: P(36235, 22182)}),
      '36,000 / 7 = 5142.86 is 51.43 degrees: 10,000 x cos = 6234.70, sin = 7818.47; the last is at 308.57, its mirror image')
 case('patterns-without-a-tool-word-keep-the-tool', p('X10.Y10.T7/G28I1.J0K1/A1G28I1.J0K1T8/B1/X50.'),
      all_of(P(1000, 1000, 7), P(1100, 1000, 7), P(1200, 1000, 8), P(1300, 1000, 8), P(5000, 1000, 8)), 'a T in a pattern block chooses the tool')
@@ -99,9 +99,9 @@ case('sine-by-the-tables-not-the-true-sine', p('G72X-8000.Y0/G28I8053.44J0.17K1T
      all_of(P(5340, 2389), P(637, 17304), P(31210, 49818)),
      '805,344 x 0.002967055 = 2389.49994, where the true sine gives 2389.5002; 732,950 x 0.978652705 = 717303.50013, the true one 717303.4996 (the sum of the two products is 978652704.92); 623,120 x 0.721881018 = 449818.49994, the true one 449818.5005')
 case('sine-sweep-of-the-first-quarter', p('G72X0Y0/G29I600.J0P0.09K999T1'),
-     H(999, {1: P(60000, 0), 501: P(42426, 42426), -1: P(188, 60000)}), 'every hundredth occurs; 45 degrees is 60,000 x 0.707106781 = 42426.4, the last is 89.82')
+     E(999, {1: P(60000, 0), 501: P(42426, 42426), -1: P(188, 60000)}), 'every hundredth occurs; 45 degrees is 60,000 x 0.707106781 = 42426.4, the last is 89.82')
 case('sine-sweep-of-a-turn', p('G72X300.Y300./G29I309.99J0P0.36K999T1'),
-     H(999, {1: P(60999, 30000), 251: P(30000, 60999), 501: P(-999, 30000), 751: P(30000, -999), 126: P(51920, 51920), 626: P(8080, 8080)}),
+     E(999, {1: P(60999, 30000), 251: P(30000, 60999), 501: P(-999, 30000), 751: P(30000, -999), 126: P(51920, 51920), 626: P(8080, 8080)}),
      'a thousandth of a turn each; at 45 degrees 30,999 x 0.707106781 = 21919.6')
 
 
@@ -175,7 +175,7 @@ case('macros-old-body-called-by-the-new-one', p('U5/X10.Y10.T1/V5/U5/X20./W5/V5/
      'the second U5 runs X20. and then the old body; once stored its W5 calls itself')
 case('macros-number-with-leading-zeros', p('U007/X10.Y10.T1/V07/W7'), all_of(P(1000, 1000), P(1000, 1000)), 'U007, V07 and W7 are one number')
 case('macros-body-never-run-is-not-judged', p('U60/X/G99/T0/W90/G50/V60/X10.Y10.T1'), all_of(P(1000, 1000)), 'blocks are judged as they are carried out')
-case('macros-calls-side-by-side', p('U60/X10.Y10.T1/V60/U61/W60/W60/V61/U62/W61/W60/W61/V62/U63/W62/W62/V63/W63/W63'), H(20), 'calls that have ended are no longer open: 2 x 2 x 5 hits')
+case('macros-calls-side-by-side', p('U60/X10.Y10.T1/V60/U61/W60/W60/V61/U62/W61/W60/W61/V62/U63/W62/W62/V63/W63/W63'), E(20), 'calls that have ended are no longer open: 2 x 2 x 5 hits')
 
 case('macros-spaces-before-u-and-v', b' G92X600.Y600.\n  U 6 0\nX10.Y10.T1\n   V6 0 \n W 60\nG50', all_of(P(1000, 1000)), 'a U or V line has that letter as its first byte but spaces')
 
@@ -207,12 +207,12 @@ case('layouts-single-row', p('G98X10.Y10.I100.J70.P2K0/U1/X0Y0T1/V1/G75W1Q2/G76W
      all_of(*[P(x, 1000) for x in (21000, 11000, 1000, 21000, 11000, 1000, 1000, 11000, 21000)]), 'in a single row G75 and G76 are alike')
 case('layouts-single-column', p('G98X10.Y10.I100.J70.P0K2/U1/X0Y0T1/V1/G75W1Q3/G76W1Q3/G75W1Q2'),
      all_of(*[P(1000, y) for y in (15000, 8000, 1000, 15000, 8000, 1000, 1000, 8000, 15000)]), 'in a single column G75 and G76 are alike')
-case('layouts-both-pitches-zero', p('G98X10.Y10.P1K1/U1/X1.Y0T1/V1/G75W1Q1/G76W1Q4'), H(8, {1: P(1100, 1000), -1: P(1100, 1000)}), 'every copy falls on one place')
+case('layouts-both-pitches-zero', p('G98X10.Y10.P1K1/U1/X1.Y0T1/V1/G75W1Q1/G76W1Q4'), E(8, {1: P(1100, 1000), -1: P(1100, 1000)}), 'every copy falls on one place')
 case('layouts-one-pitch-zero', p('G98X100.Y100.I100.J0P1K1/U1/X0Y0T1/V1/G75W1Q1/G76W1Q1'), all_of(*places('11 21 21 11  11 11 21 21')), 'with one pitch zero the orders still differ')
 case('layouts-offset-counts', p('G93X5.Y7./G98X100.Y100.I100.P1/U1/X0Y0T1/V1/G75W1Q1/G93X10./G75W1Q1'),
      all_of(P(10500, 10700), P(20500, 10700), P(11000, 10700), P(21000, 10700)), 'the lower left place is at the origin, so the G93 offset counts')
 case('layouts-reference-moved', p('G98X100.Y100.I50.J50.P1K1/U1/X1.Y2.T1/G91X5./V1/G75W1Q4/G98X137.Y89.I50.J50.P1K1/G90/G75W1Q4'),
-     H(16, {1: P(15100, 15200), 8: P(15600, 10200), 9: P(18800, 14100), 16: P(19300, 9100)}), 'the reference moved by (37, -11) moves every hit by it')
+     E(16, {1: P(15100, 15200), 8: P(15600, 10200), 9: P(18800, 14100), 16: P(19300, 9100)}), 'the reference moved by (37, -11) moves every hit by it')
 case('layouts-part-with-w-and-patterns', p('G98X100.Y100.I100.P1/U60/G28I10.J0K2/V60/U61/X1.Y1.T1/W60/G72X0Y0/G26I10.J0K2/V61/G75W61Q1'),
      all_of(P(10100, 10100), P(11100, 10100), P(12100, 10100), P(11000, 10000), P(9000, 10000),
             P(20100, 10100), P(21100, 10100), P(22100, 10100), P(21000, 10000), P(19000, 10000)), 'the copy\'s origin holds in the bodies that it calls')

@@ -38,9 +38,9 @@ def spelled(number):
 SHEET = 'G98 X20 Y100 I250 J150 P1 K1/U1/X10 Y10 T2/V1/'
 PLATES_IN_MM = {
     'm01': ('G90 X100 Y100 T2/G28 I10 J45 K2', all_of(P(10000, 10000, 2), P(10707, 10707, 2), P(11414, 11414, 2))),
-    'm02': ('X50 Y50 T2/G36 I9 P11 J9 K7', H(96, {1: P(5000, 5000, 2), 2: P(5900, 5000, 2), 96: P(5000, 11300, 2)})),
-    'm03': ('X50 Y50 T2/G37 I9 P11 J9 K7', H(96, {1: P(5000, 5000, 2), 2: P(5000, 5900, 2), 96: P(14900, 5000, 2)})),
-    'm04': ('G72 X300 Y200/G28 I25 J30 K6 T2', H(6, {1: P(32165, 21250, 2), 6: P(42990, 27500, 2)})),
+    'm02': ('X50 Y50 T2/G36 I9 P11 J9 K7', E(96, {1: P(5000, 5000, 2), 2: P(5900, 5000, 2), 96: P(5000, 11300, 2)})),
+    'm03': ('X50 Y50 T2/G37 I9 P11 J9 K7', E(96, {1: P(5000, 5000, 2), 2: P(5000, 5900, 2), 96: P(14900, 5000, 2)})),
+    'm04': ('G72 X300 Y200/G28 I25 J30 K6 T2', E(6, {1: P(32165, 21250, 2), 6: P(42990, 27500, 2)})),
     'm05': ('G72 X60 Y60/G26 I25 J45 K4 T2', all_of(P(7768, 7768, 2), P(4232, 7768, 2), P(4232, 4232, 2), P(7768, 4232, 2))),
     'm06': (SHEET + 'G76 W1 Q4', all_of(P(28000, 26000, 2), P(28000, 11000, 2), P(3000, 11000, 2), P(3000, 26000, 2))),
     'm07': (SHEET + 'G75 W1 Q4', all_of(P(28000, 26000, 2), P(3000, 26000, 2), P(3000, 11000, 2), P(28000, 11000, 2))),
@@ -51,7 +51,7 @@ for plate, (body, answer) in PLATES_IN_MM.items():
 # the sample plates have a point in every length and angle but 0
 for plate, drawing in DRAWINGS.items():
     with open(os.path.join(PLATES, plate + '.nc'), 'rb') as file:
-        at_0('plate-' + plate, file.read(), all_of(*drawing.hits()), 'every length but 0 has a point, so the setting makes no difference')
+        at_0('plate-' + plate, file.read(), all_of(*drawing.entries()), 'every length but 0 has a point, so the setting makes no difference')
 
 # ---------------------------------------------------------------- the number that the caller states
 
@@ -86,11 +86,11 @@ both('angle-without-a-point', p('X100.Y100.T1/G28I10.J45K1'), all_of(P(10000, 10
 both('g91-steps', p('X10Y10T1/G91X5/Y-5/X-0/X0.5/X5./G90X1'),
      all_of(P(1000, 1000), P(1500, 1000), P(1500, 500), P(1500, 500), P(1550, 500), P(2050, 500), P(100, 500)),
      all_of(P(10, 10), P(15, 10), P(15, 5), P(15, 5), P(65, 5), P(565, 5), P(1, 5)), 'steps are lengths')
-both('most-with-a-point', p('G72X9999.99Y-9999.99'), H(0), H(0), 'with a point a number is at most 999,999 hundredths')
+both('most-with-a-point', p('G72X9999.99Y-9999.99'), E(0), E(0), 'with a point a number is at most 999,999 hundredths')
 both('seven-digits', p('X1000000T1'), R(4, 2), R(4, 2), '4: the form of a word is the same at both settings')
 both('five-digits-and-a-point', p('X10000.T1'), R(4, 2), R(4, 2), '4: the form of a word is the same at both settings')
-both('six-digits', p('G72X999999Y-999999'), R(6, 2), H(0), '999,999 hundredths at setting 1')
-both('five-digits', p('G72X10000Y0'), R(6, 2), H(0), '1,000,000 hundredths at setting 0, 100 mm at setting 1')
+both('six-digits', p('G72X999999Y-999999'), R(6, 2), E(0), '999,999 hundredths at setting 1')
+both('five-digits', p('G72X10000Y0'), R(6, 2), E(0), '1,000,000 hundredths at setting 0, 100 mm at setting 1')
 
 # ---------------------------------------------------------------- whole numbers stay
 
@@ -107,11 +107,11 @@ WHOLE_ENDS = {
     't': ('X1Y1T%d', 99, all_of(P(100, 100, 99))),
     'a': ('X1Y1T1/A%dG36I1P0J1K0', 5, all_of(P(100, 100))),
     'b': ('X1Y1T1/A5G28I1J0K1/B%d', 5, all_of(P(100, 100), P(200, 100), P(300, 100))),
-    'k-of-g28': ('X0Y0T1/G28I0J0K%d', 999, H(1000, {-1: P(0, 0)})),
-    'k-of-g29': ('X0Y0T1/G29I1J0P0K%d', 999, H(1000, {-1: P(100, 0)})),
-    'k-of-g26': ('X0Y0T1/G26I1J0K-%d', 999, H(1000, {1: P(0, 0), 2: P(100, 0)})),
-    'p-of-g36': ('X0Y0T1/G36I0P%dJ0K0', 999, H(1000, {-1: P(0, 0)})),
-    'k-of-g37': ('X0Y0T1/G37I0P0J0K%d', 999, H(1000, {-1: P(0, 0)})),
+    'k-of-g28': ('X0Y0T1/G28I0J0K%d', 999, E(1000, {-1: P(0, 0)})),
+    'k-of-g29': ('X0Y0T1/G29I1J0P0K%d', 999, E(1000, {-1: P(100, 0)})),
+    'k-of-g26': ('X0Y0T1/G26I1J0K-%d', 999, E(1000, {1: P(0, 0), 2: P(100, 0)})),
+    'p-of-g36': ('X0Y0T1/G36I0P%dJ0K0', 999, E(1000, {-1: P(0, 0)})),
+    'k-of-g37': ('X0Y0T1/G37I0P0J0K%d', 999, E(1000, {-1: P(0, 0)})),
     'p-of-g98': ('X1Y1T1/G98X0Y0P%d', 99, all_of(P(100, 100))),
     'k-of-g98': ('X1Y1T1/G98X0Y0K%d', 99, all_of(P(100, 100))),
     'u': ('U%d/X1Y1T1/V89/W89', 89, all_of(P(100, 100))),
@@ -131,8 +131,8 @@ for word, (body, most, answer) in WHOLE_ENDS.items():
 LIMITS = {
     'position-x': ('G93X{-}/X{}Y0T1', all_of(P(0, 0)), all_of(P(0, 0))),
     'position-y': ('G93Y{-}/X0Y{}T1', all_of(P(0, 0)), all_of(P(0, 0))),
-    'g70-x': ('G93X{-}/G70X{}Y0', H(0), H(0)),
-    'g70-y': ('G93Y{-}/G70X0Y{}', H(0), H(0)),
+    'g70-x': ('G93X{-}/G70X{}Y0', E(0), E(0)),
+    'g70-y': ('G93Y{-}/G70X0Y{}', E(0), E(0)),
     'g72-x': ('X1Y1T1/G72X{}Y0', all_of(P(100, 100)), all_of(P(100, 100))),
     'g72-y': ('X1Y1T1/G72Y{}', all_of(P(100, 100)), all_of(P(100, 100))),
     'g93-x': ('X1Y1T1/G93X{}', all_of(P(100, 100)), all_of(P(100, 100))),
@@ -179,7 +179,7 @@ for name in ('position-x', 'g28-i', 'g29-p', 'g98-d'):
     limit(name, body, '999999', refused, '6: 999,999 mm or degrees')
 for x, y, number in (('9999', '600', 8), ('10000', '600', 6), ('600', '9999', 8), ('600', '10000', 6), ('-9999', '600', 8), ('-10000', '600', 6),
                      ('600', '-9999', 8), ('600', '-10000', 6), ('60000', '60000', 6), ('0600', '000600', 0)):
-    at_0('limit-g92-x-%s-y-%s' % (spelled(x), spelled(y)), 'G92X%sY%s/G50' % (x, y), R(number, 1) if number else H(0),
+    at_0('limit-g92-x-%s-y-%s' % (spelled(x), spelled(y)), 'G92X%sY%s/G50' % (x, y), R(number, 1) if number else E(0),
          {8: '8: within the limit of 6, and no machine', 6: '6: past the limit, before 8', 0: 'leading zeros do not count'}[number])
 
 # I, J, P, Q and D of G66, by what each gives with 9999 and with -9999 (9,999 degrees as above). One hit, where D makes L equal to w.
@@ -242,9 +242,9 @@ mm('order-of-blocks', 'X1Y1/X10000T1', R(14, 2), 'the first block that is refuse
 
 mm('body-never-run', 'U60/X10000T1/V60/X1Y1T1', all_of(P(100, 100)), 'a body that is never run is not judged')
 mm('body-only-stored-under-g98', 'G98X0Y0/U1/X10000T1/V1/X1Y1T1', all_of(P(100, 100)), 'once G98 has come, U1 only stores')
-mm('body-run-by-w', 'U60/M0/X10000T1/V60/M0/W60', R(6, 4), '6 in the line of the body block')
-mm('body-in-a-first-run', 'U1/M0/X10000T1/V1', R(6, 4), '6 in the line of the body block')
-mm('body-in-a-copy', 'G98X0Y0I9P1/U1/M0/X10000T1/V1/G75W1Q1', R(6, 5), '6 in the line of the body block')
+mm('body-run-by-w', 'U60/M08/X10000T1/V60/M08/W60', R(6, 4), '6 in the line of the body block')
+mm('body-in-a-first-run', 'U1/M08/X10000T1/V1', R(6, 4), '6 in the line of the body block')
+mm('body-in-a-copy', 'G98X0Y0I9P1/U1/M08/X10000T1/V1/G75W1Q1', R(6, 5), '6 in the line of the body block')
 mm('body-two-deep', 'U60/G72X10000/V60/U61/W60/V61/W61', R(6, 3), '6 in the line of the inner body block')
 mm('first-run-and-calls', 'U1/X10Y10T5/G91X5/V1/U60/G90Y50/W1/V60/W60',
    all_of(P(1000, 1000, 5), P(1500, 1000, 5), P(1500, 5000, 5), P(1000, 1000, 5), P(1500, 1000, 5)), 'the setting holds in bodies')
@@ -265,20 +265,20 @@ mm('copies-begin-alike', 'X10Y10T2/G98X100Y100I50P1/U60/X5Y5/G91X1T3/V60/G75W60Q
 
 both('machine-in-mm', p('X10.Y10.T1', M222), all_of(P(1000, 1000)), R(8, 1), '600 mm at setting 0; at setting 1 X600 is 6 mm, so 8')
 both('larger-machine-in-mm', p('X1010Y10.T1', M224), all_of(P(101000, 1000)), R(8, 1), '1,000 mm at setting 0; at setting 1 X1000 is 10 mm, so 8')
-both('machine-with-a-point-in-x', 'G92X600.Y600/G50', H(0), R(8, 1), '600 mm each at setting 0; at setting 1 Y600 is 6 mm, so 8')
-both('machine-with-a-point-in-y', 'G92X600Y600./G50', H(0), R(8, 1), '600 mm each at setting 0; at setting 1 X600 is 6 mm, so 8')
+both('machine-with-a-point-in-x', 'G92X600.Y600/G50', E(0), R(8, 1), '600 mm each at setting 0; at setting 1 Y600 is 6 mm, so 8')
+both('machine-with-a-point-in-y', 'G92X600Y600./G50', E(0), R(8, 1), '600 mm each at setting 0; at setting 1 X600 is 6 mm, so 8')
 both('machine-in-hundredths', p('X10.Y10.T1', 'G92X60000Y60000'), R(6, 1), all_of(P(1000, 1000)), '600 mm at setting 1; 6 at setting 0')
 both('range-of-a-position', p('X1000Y1000T1'), R(16, 2), all_of(P(1000, 1000)), '1,000 mm at setting 0, so 16; 10 mm at setting 1')
-both('range-of-a-g70-end', p('G70X611Y0'), R(16, 2), H(0), '611 mm at setting 0, so 16; 6.11 mm at setting 1')
-both('reach-of-a-line', p('X0Y0T1/G28I100J0K100'), R(15, 3), H(101, {1: P(0, 0), 2: P(100, 0), -1: P(10000, 0)}),
+both('range-of-a-g70-end', p('G70X611Y0'), R(16, 2), E(0), '611 mm at setting 0, so 16; 6.11 mm at setting 1')
+both('reach-of-a-line', p('X0Y0T1/G28I100J0K100'), R(15, 3), E(101, {1: P(0, 0), 2: P(100, 0), -1: P(10000, 0)}),
      '100 x 10,000 = 1,000,000 at setting 0, so 15; 100 x 100 at setting 1')
-both('reach-of-a-grid', p('X0Y0T1/G36I102P99J0K0'), R(15, 3), H(100, {1: P(0, 0), -1: P(10098, 0)}),
+both('reach-of-a-grid', p('X0Y0T1/G36I102P99J0K0'), R(15, 3), E(100, {1: P(0, 0), -1: P(10098, 0)}),
      '99 x 10,200 = 1,009,800 at setting 0, so 15; 99 x 102 = 10,098 at setting 1')
 both('position-too-far', p('G91X9999T1'), R(15, 2), R(16, 2), '60,000 + 999,900 at setting 0, so 15; 69,999 at setting 1, so 16')
-both('origin-too-far', p('G98X9999Y0/G93X1'), R(15, 3), H(0), '999,900 + 100 at setting 0, so 15')
-both('copy-place-too-far', p('G98X0Y0I102P99/U60/M0/V60/G75W60Q2'), R(15, 6), H(0), '99 x 10,200 at setting 0, so 15 in the calling line')
-both('accepted-at-both', p('X50Y50T2/G36I9P11J9K7'), H(96, {1: P(5000, 5000, 2), 2: P(5900, 5000, 2), 96: P(5000, 11300, 2)}),
-     H(96, {1: P(50, 50, 2), 2: P(59, 50, 2), 96: P(50, 113, 2)}), 'the eight by twelve rack, and a hundredth of it')
+both('origin-too-far', p('G98X9999Y0/G93X1'), R(15, 3), E(0), '999,900 + 100 at setting 0, so 15')
+both('copy-place-too-far', p('G98X0Y0I102P99/U60/M08/V60/G75W60Q2'), R(15, 6), E(0), '99 x 10,200 at setting 0, so 15 in the calling line')
+both('accepted-at-both', p('X50Y50T2/G36I9P11J9K7'), E(96, {1: P(5000, 5000, 2), 2: P(5900, 5000, 2), 96: P(5000, 11300, 2)}),
+     E(96, {1: P(50, 50, 2), 2: P(59, 50, 2), 96: P(50, 113, 2)}), 'the eight by twelve rack, and a hundredth of it')
 
 # ---------------------------------------------------------------- shear proof
 
@@ -303,6 +303,12 @@ mm('shear-larger-tool', 'G66I9999J0P6667T1', R(18, 2), '18: 2 x 9,999 is under 3
 mm('shear-from-memory', 'G72X100Y100/A1G66I30J0P20Q5T1/G72X200Y100/B1', all_of(P(11000, 10250), P(12000, 10250), P(21000, 10250), P(22000, 10250)), 'a stored pattern is multiplied once')
 mm('shear-in-copies', 'G98X100Y100I100P1/U1/G72X5Y5/G66I30J180P20Q5T1/V1/G75W1Q1', all_of(P(9500, 10250), P(8500, 10250), P(19500, 10250), P(18500, 10250)), 'the setting holds in bodies')
 
+# ---------------------------------------------------------------- stops
+
+both('stops', p('M0/M1/X10.Y10.T1/M01'), *[all_of(STOP, OPTIONAL, P(1000, 1000), OPTIONAL)] * 2, 'the number of a code is no length: M1 is M01 at both settings')
+mm('stops-in-copies', 'G98X100Y100I100P1/U1/G72X10Y10/M0/G28I10J90K1T1/M1/V1/G75W1Q1', all_of(STOP, P(11000, 12000), OPTIONAL, STOP, P(21000, 12000), OPTIONAL),
+   'hits in whole millimetres, stops as they are')
+
 # ---------------------------------------------------------------- range ends in whole millimetres
 
 for axis, other, inside, outside in (('X', 'Y0', 610, 611), ('Y', 'X0', 610, 611), ('X', 'Y0', -10, -11), ('Y', 'X0', -10, -11)):
@@ -316,4 +322,5 @@ mm('range-of-the-224-and-more', 'X1011Y0T1', R(16, 2), '16: the range ends at 1,
 
 at_0('text-empty', b'', R(1, 0), '1: a text of 0 bytes; line 0')
 at_0('list-exactly-full', p(PLATES_IN_MM['m02'][0], M222), PLATES_IN_MM['m02'][1], '96 hits fill 96 places', 384)
+at_0('list-one-stop-over', p(PLATES_IN_MM['m02'][0] + '/M00', M222), R(17, 4), '17: 96 hits fill the list, and the stop has no place', 384)
 at_0('list-one-place-fewer', p(PLATES_IN_MM['m02'][0], M222), R(17, 3), '17: 96 hits, and places for 95', 380)

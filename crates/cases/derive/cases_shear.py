@@ -217,10 +217,10 @@ shear('i-half-a-hundredth-above-one-and-a-half-odd-w', AT + 'G66I1.55J0P1.03T1',
 shear('largest-tool', 'G72X-4999.99Y-3333.33/G66I9999.99J0P6666.66D-1666.66T1', all_of(P(0, 0), P(1, 0)),
       '999,999 is exactly 1.5 x 666,666; L 666,667, one step of a hundredth from 333,333 + 166,666 on, across 333,333')
 shear('18-without-a-tool', 'G66I10.J0P1.', R(18, 2), '18: judged before any hit')
-shear('18-in-the-line-of-the-block', 'X10.Y10.T1//M0/%s/G66I29.99J0P20./X20.' % TWO, R(18, 6), '18: in the line of the block')
+shear('18-in-the-line-of-the-block', 'X10.Y10.T1//M08/%s/G66I29.99J0P20./X20.' % TWO, R(18, 6), '18: in the line of the block')
 shear('18-stored', 'A1G66I29.99J0P20.T1/B1', R(18, 2), '18: at the block that stores it, so no B finds an unfit one')
-shear('18-in-a-copy-by-g76', 'G98X100.Y100.I100.J50.P1K1/U1/X0Y0T1/G66I29.99J0P20./V1/M0/G76W1Q4', R(18, 5), '18: in the line of the body block')
-shear('18-in-a-copy-of-a-second-body', 'G98X0Y0/U60/M0/G66I29.99J0P20./V60/U61/W60/V61/G75W61Q1', R(18, 5), '18: in the line of the inner body block')
+shear('18-in-a-copy-by-g76', 'G98X100.Y100.I100.J50.P1K1/U1/X0Y0T1/G66I29.99J0P20./V1/M08/G76W1Q4', R(18, 5), '18: in the line of the body block')
+shear('18-in-a-copy-of-a-second-body', 'G98X0Y0/U60/M08/G66I29.99J0P20./V60/U61/W60/V61/G75W61Q1', R(18, 5), '18: in the line of the inner body block')
 shear('18-in-a-body-never-run', 'U60/G66I29.99J0P20./V60/G98X0Y0/U1/G66I0J0P0/V1/X1.Y1.T1', all_of(P(100, 100)), 'a body that is never run is not judged')
 shear('18-after-hits', 'X10.Y10.T1/%s/G66I100.J0P20.Q-20.' % TWO, R(18, 4), '18: the hits before are gone from the list')
 
@@ -268,9 +268,9 @@ shear('list-one-hit-over', 'G72X200.Y300./G66I100.J0P20.Q10.T1/X10.Y10.', R(17, 
 shear('list-of-none', AT + 'G66I30.J0P20.D-5.T1', R(17, 3), '17: one hit, no place', length=3)
 shear('17-of-an-earlier-hit-before-16', 'X600.Y0T1/' + TWO, R(17, 3), '17: hit by hit, the first has no place, the second would be outside', length=4)
 shear('16-of-an-earlier-hit-before-15', 'G72X9989.99Y0/' + TWO + 'T1', R(16, 3), '16: hit by hit, the first, at 999,999, is outside the range, the second past the limit of 15')
-shear('2340-hits-across-the-sheet', 'G72X-10.2Y-10.2/G66I1193.4J31.3P1.01T1', H(2340, {1: P(-1003, -951), 1171: P(49961, 30036), 2340: P(100882, 60996)}),
+shear('2340-hits-across-the-sheet', 'G72X-10.2Y-10.2/G66I1193.4J31.3P1.01T1', E(2340, {1: P(-1003, -951), 1171: P(49961, 30036), 2340: P(100882, 60996)}),
       'w 101, travel 119,239: 2,338.02 steps of 51, so 2,339; cosine 0.854458830, sine 0.519519112; first 16.91 and 69.39 off, last 101901.73 and 62016.33', A224)
 shear('2340-hits-and-one-place-fewer', 'G72X-10.2Y-10.2/G66I1193.4J31.3P1.01T1', R(17, 3), '17: 2,339 places', A224, length=9359)
-shear('4096-hits-in-two-lines', 'G72X-10.2Y-10.2/G66I1193.4J31.3P1.01T1/G72X0Y0/G66I896.06J31.P1.01', H(4096, {2341: P(17, 69), 4096: P(76738, 46168)}),
+shear('4096-hits-in-two-lines', 'G72X-10.2Y-10.2/G66I1193.4J31.3P1.01T1/G72X0Y0/G66I896.06J31.P1.01', E(4096, {2341: P(17, 69), 4096: P(76738, 46168)}),
       'a second line of 89,606: travel 89,505, exactly 1,755 steps of 51; cosine 0.857167301, sine 0.515038075', A224)
 shear('4097-hits-in-two-lines', 'G72X-10.2Y-10.2/G66I1193.4J31.3P1.01T1/G72X0Y0/G66I896.07J31.P1.01', R(17, 5), '17: a hundredth more is a step more, and hit 4,097', A224)

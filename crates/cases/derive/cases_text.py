@@ -132,7 +132,12 @@ for block, code, why in (
     ('G28I30.J0K1D1.T1', 'g28-with-d', 'D is not one of its letters'),
     ('G50X1.', 'g50-with-x', 'G50 stands alone'),
     ('M0X1.', 'm-with-x', 'M codes stand alone'),
+    ('M0T1', 'm-with-t', 'M codes stand alone'),
+    ('M1W60', 'm-with-w', 'M codes stand alone'),
+    ('A1M0', 'a-before-m', 'A stands before a pattern code'),
+    ('G50M0', 'g50-with-m', 'G50 and M codes stand alone'),
     ('M8M9', 'm-twice', 'no letter stands twice but G'),
+    ('M0M1', 'm00-with-m01', 'no letter stands twice but G'),
     ('W60Q1', 'w-with-q', 'W without G stands alone'),
     ('B1B2', 'b-twice', 'no letter stands twice but G'),
     ('U60U61', 'u-twice', 'U stands alone'),
@@ -150,21 +155,22 @@ for block, code, why in (
 ):
     case('letters-' + code, p(block), R(5, 2), '5: ' + why)
 case('letters-optional-ones-left-out', p('G98X0Y0/Y10.X5.T1/G90Y20./G91X1./G70X1./G70Y1./G72X1./G72Y1./G93X1./G93Y1.'),
-     H(3, {1: (500, 1000, 1, 'P'), 2: (500, 2000, 1, 'P'), 3: (600, 2000, 1, 'P')}), 'X or Y is enough, and I, J, P, K, D of G98 may all be absent')
+     E(3, {1: (500, 1000, 1, 'P'), 2: (500, 2000, 1, 'P'), 3: (600, 2000, 1, 'P')}), 'X or Y is enough, and I, J, P, K, D of G98 may all be absent')
 
 # ---------------------------------------------------------------- codes (5)
 
 for block, code in (
     ('G0', 'g0'), ('G4X10.', 'g04'), ('G25X350.', 'g25'), ('G27X350.', 'g27'), ('G67I-200.J-150.P20.Q20.T1', 'g67'), ('G73X1.Y1.W1Q4', 'g73'),
-    ('G94X0Y0', 'g94'), ('G999999', 'g999999'), ('M2', 'm02'), ('M30', 'm30'), ('M500', 'm500'), ('M7', 'm07'), ('C45.', 'c'), ('F1', 'f'),
+    ('G94X0Y0', 'g94'), ('G999999', 'g999999'), ('M2', 'm02'), ('M30', 'm30'), ('M500', 'm500'), ('M7', 'm07'), ('M10', 'm10'), ('M256', 'm256'), ('M65537', 'm65537'), ('C45.', 'c'), ('F1', 'f'),
 ):
     case('codes-unknown-' + code, p(block), R(5, 2), '5: every code that is not listed is unknown')
 case('codes-unknown-in-the-first-line', 'G6A1.6B0/' + p(ONE), R(5, 1), '5 comes before 7: G06 of 001 and 002 is unknown')
-for block, code in (('G+90X1.T1', 'g-with-a-sign'), ('G90.X1.T1', 'g-with-a-point'), ('M+0', 'm-with-a-sign'), ('M0.', 'm-with-a-point')):
+for block, code in (('G+90X1.T1', 'g-with-a-sign'), ('G90.X1.T1', 'g-with-a-point'), ('M+0', 'm-with-a-sign'), ('M0.', 'm-with-a-point'), ('M-0', 'm-with-minus-zero'), ('M01.', 'm01-with-a-point')):
     case('codes-' + code, p(block), R(5, 2), '5: a G or M word with a sign or point is unknown')
-case('codes-by-their-number', p('M0/M00/M000001/M8/M08/M9/M09/M12/X10.Y10.T1/M13/G090X20.') , all_of((1000, 1000, 1, 'N'), (2000, 1000, 1, 'P')),
+case('codes-by-their-number', p('M0/M00/M000001/M8/M08/M9/M09/M12/X10.Y10.T1/M13/G090X20.'), all_of(STOP, STOP, OPTIONAL, (1000, 1000, 1, 'N'), (2000, 1000, 1, 'P')),
      'G and M codes go by their number, so M0 is M00')
-case('codes-m-codes-make-no-hit', p('M00/M01/M08/M09/M12/M13'), H(0), 'M00, M01, M08 and M09 make no hit, M12 and M13 set the mode')
+case('codes-m00-and-m01-make-an-entry', p('M00/M01/M08/M09/M12/M13'), all_of(STOP, OPTIONAL), 'of the M codes M00 and M01 alone make entries')
+case('codes-m08-to-m13-make-no-entry', p('M08/M09/M12/M13'), E(0), 'M08 and M09 make no entry, M12 and M13 set the mode')
 
 # ---------------------------------------------------------------- two G words
 
@@ -182,6 +188,7 @@ for block, code, why in (
     ('G90G98X0Y0', 'g90-with-g98', 'G98 is no partner'),
     ('G90G50', 'g90-with-g50', 'G50 stands alone'),
     ('G90M0', 'g90-with-m', 'M codes stand alone'),
+    ('G91M1', 'g91-with-m', 'M codes stand alone'),
     ('G90W60', 'g90-with-w', 'W without another G stands alone, and G90 is no code that takes it'),
     ('G90B1', 'g90-with-b', 'B stands alone'),
 ):
@@ -190,7 +197,7 @@ case('two-g-g90-with-g92', 'G90G92X600.Y600./G50', R(5, 1), '5: G92 is no partne
 
 # ---------------------------------------------------------------- ranges (6): ends and one beyond
 
-case('ranges-n-ends', 'N0G92X600.Y600./N9999G50', H(0), 'N 0 to 9999')
+case('ranges-n-ends', 'N0G92X600.Y600./N9999G50', E(0), 'N 0 to 9999')
 case('ranges-n-10000', p('N10000X1.Y1.T1'), R(6, 2), '6: N above 9999')
 case('ranges-t-ends', p('X10.Y10.T1/T99Y20.'), all_of(HIT, (1000, 2000, 99, 'P')), 'T 1 to 99')
 case('ranges-t-0', p('X10.Y10.T0'), R(6, 2), '6: T below 1')
@@ -206,13 +213,13 @@ for block, code in (('A0G28I1.J0K1T1', 'a-0'), ('A6G28I1.J0K1T1', 'a-6'), ('B0',
     case('ranges-' + code, p(block), R(6, 2), '6: A and B are 1 to 5')
 for block, code in (('G75W60Q0', 'q-0'), ('G75W60Q5', 'q-5'), ('G76W60Q0', 'g76-q-0'), ('G76W60Q5', 'g76-q-5')):
     case('ranges-' + code, p('G98X0Y0/U60/V60/' + block), R(6, 5), '6: Q is 1 to 4')
-case('ranges-g28-k-ends', p('X10.Y10.T1/G28I1J0K1/G28I1J0K999'), H(1001, {1: HIT, 2: (1001, 1000, 1, 'P'), -1: (2000, 1000, 1, 'P')}),
+case('ranges-g28-k-ends', p('X10.Y10.T1/G28I1J0K1/G28I1J0K999'), E(1001, {1: HIT, 2: (1001, 1000, 1, 'P'), -1: (2000, 1000, 1, 'P')}),
      'K of G28 is 1 to 999')
 case('ranges-g29-k-ends', p('G72X100.Y100./G29I1.J0P90.K1T1/G72X100.Y100./G29I1.J0P90.K999'),
-     H(1000, {1: (10100, 10000, 1, 'P'), 3: (10000, 10100, 1, 'P'), -1: (9900, 10000, 1, 'P')}),
+     E(1000, {1: (10100, 10000, 1, 'P'), 3: (10000, 10100, 1, 'P'), -1: (9900, 10000, 1, 'P')}),
      'K of G29 is 1 to 999; 998 quarter turns end at a half turn')
 case('ranges-g26-k-ends', p('G72X100.Y100./G26I1.J0K1T1/G72X100.Y100./G26I1.J0K-1/G72X100.Y100./G26I100.J0K999/G72X100.Y100./G26I100.J0K-999'),
-     H(2000, {1: (10100, 10000, 1, 'P'), 2: (10100, 10000, 1, 'P'), 3: (20000, 10000, 1, 'P'), 1002: (20000, 10000, 1, 'P'),
+     E(2000, {1: (10100, 10000, 1, 'P'), 2: (10100, 10000, 1, 'P'), 3: (20000, 10000, 1, 'P'), 1002: (20000, 10000, 1, 'P'),
               336: (5000, 18660, 1, 'P'), 1335: (5000, 1340, 1, 'P')}),
      'K of G26 is 1 to 999 in size; a third of 999 holes is 120 degrees')
 for block, code, why in (
@@ -242,11 +249,11 @@ for block, code, why in (
     case('ranges-' + code, p(block), R(6, 2), '6: ' + why)
 case('ranges-g29-and-g26-i-1', p('G72X1.Y1./G29I1J0P0K1T1/G72X1.Y1./G26I1J90.K1'), all_of((101, 100, 1, 'P'), (100, 101, 1, 'P')), 'a hundredth is above 0')
 case('ranges-g36-ends', p('X10.Y10.T1/G36I1P999J0K0/G36I0P0J1K999/G36I0P0J0K0'),
-     H(1999, {2: (1001, 1000, 1, 'P'), 1000: (1999, 1000, 1, 'P'), 1001: (1999, 1001, 1, 'P'), -1: (1999, 1999, 1, 'P')}), 'P and K of a grid are 0 to 999')
+     E(1999, {2: (1001, 1000, 1, 'P'), 1000: (1999, 1000, 1, 'P'), 1001: (1999, 1001, 1, 'P'), -1: (1999, 1999, 1, 'P')}), 'P and K of a grid are 0 to 999')
 case('ranges-g37-ends', p('X10.Y10.T1/G37I1P999J0K0/G37I0P0J1K999/G37I0P0J0K0'),
-     H(1999, {2: (1001, 1000, 1, 'P'), 1000: (1999, 1000, 1, 'P'), 1001: (1999, 1001, 1, 'P'), -1: (1999, 1999, 1, 'P')}), 'P and K of a grid are 0 to 999')
+     E(1999, {2: (1001, 1000, 1, 'P'), 1000: (1999, 1000, 1, 'P'), 1001: (1999, 1001, 1, 'P'), -1: (1999, 1999, 1, 'P')}), 'P and K of a grid are 0 to 999')
 case('ranges-g98-p-and-k-99', p('G98X0Y0I1J1P99K99/U60/V60/G76W60Q4/G98X0Y0I1P99/U60/X1.Y0T1/V60/G75W60Q1'),
-     H(100, {1: (100, 0, 1, 'P'), -1: (199, 0, 1, 'P')}), 'P and K of G98 are 0 to 99: ten thousand copies of nothing, then a hundred')
+     E(100, {1: (100, 0, 1, 'P'), -1: (199, 0, 1, 'P')}), 'P and K of G98 are 0 to 99: ten thousand copies of nothing, then a hundred')
 case('ranges-222-x-and-y-ends', p('X-10.2Y-10.2T1/X610.2Y610.2/G70X-10.2/G70Y-10.2'), all_of((-1020, -1020, 1, 'P'), (61020, 61020, 1, 'P')),
      'X and Y from -1,020 to 61,020 on the ARIES-222, both ends inside')
 case('ranges-224-x-and-y-ends', p('X-10.2Y-10.2T1/X1010.2Y610.2/G70X-10.2/G70X1010.2Y-10.2', A224), all_of((-1020, -1020, 1, 'P'), (101020, 61020, 1, 'P')),

@@ -5,8 +5,8 @@
 """
 import os
 import sys
-from table import CASES, R, H
-import cases_text, cases_press, cases_shear, cases_limits, cases_manual, cases_page, cases_plates, cases_settings
+from table import CASES, R, E
+import cases_text, cases_press, cases_shear, cases_stops, cases_limits, cases_manual, cases_page, cases_plates, cases_settings
 from expander import expand, printed
 
 bad = 0
@@ -17,24 +17,24 @@ for name, setting, length, text, hand, reason in CASES:
     if isinstance(hand, R):
         ok = (number, rest) == (hand.number, hand.line)
     else:
-        ok = number == 0 and len(rest) == hand.count and all(rest[k - 1 if k > 0 else k] == h for k, h in hand.some.items())
+        ok = number == 0 and len(rest) == hand.count and all(rest[k - 1 if k > 0 else k] == e for k, e in hand.some.items())
     if not ok:
         bad += 1
-        want = 'R%d/%d' % (hand.number, hand.line) if isinstance(hand, R) else 'H%d' % hand.count
+        want = 'R%d/%d' % (hand.number, hand.line) if isinstance(hand, R) else 'E%d' % hand.count
         print('DIFFERS', name, 'hand', want, 'expander', printed((number, rest))[:70].replace('\n', ' '))
-        if isinstance(hand, H) and number == 0:
-            for k, h in hand.some.items():
-                if abs(k) <= len(rest) and rest[k - 1 if k > 0 else k] != h:
-                    print('    hit', k, 'hand', h, 'expander', rest[k - 1 if k > 0 else k])
+        if isinstance(hand, E) and number == 0:
+            for k, e in hand.some.items():
+                if abs(k) <= len(rest) and rest[k - 1 if k > 0 else k] != e:
+                    print('    entry', k, 'hand', e, 'expander', rest[k - 1 if k > 0 else k])
 print(len(CASES), 'cases,', bad, 'differ')
 
-GROUPS = ['plates', 'page', 'tempting', 'text', 'words', 'letters', 'codes', 'two', 'ranges', 'kinds', 'settings', 'moves', 'origin', 'patterns', 'memory', 'sine', 'shear', 'macros',
+GROUPS = ['plates', 'page', 'tempting', 'text', 'words', 'letters', 'codes', 'two', 'ranges', 'kinds', 'settings', 'moves', 'origin', 'patterns', 'memory', 'sine', 'shear', 'stops', 'macros',
           'layouts', 'lists', 'characters', 'calls', 'blocks', 'reach', 'refusal', 'order', 'decision', 'manual', 'samples']
 HEADS = {
     'plates': 'The plates of document 01', 'page': 'The examples of docs/PUNCH-CODE.md', 'tempting': 'Four readings that tempt', 'text': 'Bytes, lines, spaces', 'words': 'The form of a word (4)',
     'letters': 'The letters of each block (5)', 'codes': 'Codes (5)', 'two': 'Two G words (5)', 'ranges': 'Range ends and one beyond (6, 16)',
     'kinds': 'Signs and points on whole numbers (6)', 'settings': 'The decimal point setting (6, and what a number means)', 'moves': 'Moving and punching', 'origin': 'The waiting origin', 'patterns': 'Patterns',
-    'memory': 'Pattern memory', 'sine': 'Sines', 'shear': 'Shear proof, G66 (18)', 'macros': 'Macros', 'layouts': 'Layouts', 'lists': 'Lists (17)', 'characters': 'Characters of bodies (12)',
+    'memory': 'Pattern memory', 'sine': 'Sines', 'shear': 'Shear proof, G66 (18)', 'stops': 'Stops, M00 and M01', 'macros': 'Macros', 'layouts': 'Layouts', 'lists': 'Lists (17)', 'characters': 'Characters of bodies (12)',
     'calls': 'Open calls (11)', 'blocks': 'Blocks carried out (3)', 'reach': 'Reach (15)', 'refusal': 'Each refusal at the top, in a body, in a first run, in a copy',
     'order': 'Two faults in one block', 'decision': 'Decisions', 'manual': 'Examples of the manuals',
     'samples': 'The sample plates',
@@ -66,10 +66,10 @@ def told(answer):
     if number:
         return '%d in line %d' % (number, rest)
     if not rest:
-        return 'no hit'
+        return 'no entry'
     if len(rest) <= 3:
-        return ', '.join('(%d %d %d %s)' % h for h in rest)
-    return '%d hits, (%d %d %d %s) to (%d %d %d %s)' % ((len(rest),) + rest[0] + rest[-1])
+        return ', '.join('(%d %d %d %s)' % e for e in rest)
+    return '%d entries, (%d %d %d %s) to (%d %d %d %s)' % ((len(rest),) + rest[0] + rest[-1])
 
 
 def shown(text):
@@ -132,15 +132,15 @@ it. First come arguments that are no setting or no length. A name says what its 
 differs explains itself. The answers were worked out from the rules and not taken from the program.
 
 The table of cases is in `derive/`, each with what was worked out by hand: a refusal's number and line, or the count of
-hits and some of them. Beside it is an expander of its own, written from the rules alone, which gives all hits.
+entries and some of them. Beside it is an expander of its own, written from the rules alone, which gives all entries.
 `derive/check.py` compares the two, and `derive/check.py .` writes all files anew.
 
 In the tables a slash stands for a line feed; a long text, or one with other bytes, is in its file. Lines count from 1,
-blank ones too. The setting is 1 and the list has 16,384 numbers, so places for 4,096 hits, unless something else stands
-before the answer. An answer is a refusal's number and line, or the hits: X, Y, tool, mode. In the last column a number
-before a colon is that refusal's; 000, 001 and 002 are the manuals. Document 01 is the specification, to which document 02
-adds the decimal point setting and G66; the rules are in docs/PUNCH-CODE.md, where the cases named page-.. are worked out
-step by step.
+blank ones too. The setting is 1 and the list has 16,384 numbers, so places for 4,096 entries, unless something else stands
+before the answer. An answer is a refusal's number and line, or the entries: X, Y, tool, mode. A hit has mode P or N, a stop
+S, an optional stop O. In the last column a number before a colon is that refusal's; 000, 001 and 002 are the manuals.
+Document 01 is the specification, to which document 02 adds the decimal point setting, G66 and stops; the rules are in
+docs/PUNCH-CODE.md, where the cases named page-.. are worked out step by step.
 '''
 
 

@@ -1,7 +1,7 @@
-"""An expander of ARIES punch code, written from document 01, and from document 02 for the decimal point setting and G66.
+"""An expander of ARIES punch code, written from document 01, and from document 02 for the decimal point setting, G66 and stops.
 
-expand(text, length, setting) answers (0, hits) or (number, line). Whole numbers throughout; the sine tables come from
-fractions. Slow and plain on purpose: it is read beside the documents.
+expand(text, length, setting) answers (0, entries) or (number, line). An entry is a hit or a stop: X, Y, tool, mode. Whole
+numbers throughout; the sine tables come from fractions. Slow and plain on purpose: it is read beside the documents.
 """
 import re
 from fractions import Fraction
@@ -104,6 +104,7 @@ def words_of(line, number):
 PATTERNS = {26: 'IJK', 28: 'IJK', 29: 'IJPK', 36: 'IPJK', 37: 'IPJK', 66: 'IJP'}
 MAY_BE_ABSENT = {66: 'QD'}
 CODES = {0, 1, 8, 9, 12, 13}
+STOPS = {0: (0, 0, 0, 'S'), 1: (0, 0, 0, 'O')}     # the entries that M00 and M01 make
 FAR = 999999
 
 # the letters that are lengths or angles, by code; None is a position
@@ -282,10 +283,10 @@ class Expander:
 
     def run(self):
         try:
-            hits = self.whole_text()
+            entries = self.whole_text()
         except Refused as r:
             return r.number, r.line
-        return 0, hits
+        return 0, entries
 
     def whole_text(self):
         text = self.text
@@ -299,7 +300,7 @@ class Expander:
             raw.pop()
         self.lines = [l.replace(' ', '') for l in raw]
         self.parsed = {}
-        self.hits = []
+        self.entries = []
         self.blocks = 0
         self.state = State()
         self.machine = None
@@ -316,7 +317,7 @@ class Expander:
                 i = self.top_block(i)
         if not self.ended:
             raise Refused(7, len(self.lines))
-        return self.hits
+        return self.entries
 
     def judged(self, i):
         """3 to 6 of the block in line i (from 0)."""
@@ -452,7 +453,9 @@ class Expander:
         number = b.line
         if b.kind == 'M':
             code = b.words['M'].value
-            if code in (12, 13):
+            if code in STOPS:
+                self.enter(STOPS[code], number)
+            elif code in (12, 13):
                 s.nibbling = code == 12
             return
         if b.kind == 'W':
@@ -516,9 +519,13 @@ class Expander:
             raise Refused(14, number)
         self.near(p, number)
         self.within(p, number)
-        if len(self.hits) == self.places:
+        self.enter((p[0], p[1], s.tool, 'N' if s.nibbling else 'P'), number)
+
+    def enter(self, entry, number):
+        """17: a hit or a stop takes a place of the list."""
+        if len(self.entries) == self.places:
             raise Refused(17, number)
-        self.hits.append((p[0], p[1], s.tool, 'N' if s.nibbling else 'P'))
+        self.entries.append(entry)
 
     def pattern(self, numbers, number):
         code, i, j, p, k, q, d = numbers
@@ -601,6 +608,6 @@ def printed(answer):
     number, rest = answer
     if number:
         return 'REFUSED %d LINE %d\n' % (number, rest)
-    lines = ['HITS %d' % len(rest)]
-    lines += ['%d %d %d %d %s' % ((n,) + hit) for n, hit in enumerate(rest, 1)]
+    lines = ['ENTRIES %d' % len(rest)]
+    lines += ['%d %d %d %d %s' % ((n,) + entry) for n, entry in enumerate(rest, 1)]
     return '\n'.join(lines) + '\n'

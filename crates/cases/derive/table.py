@@ -6,6 +6,10 @@ NAMES = set()
 A222 = 'G92X600.Y600.'
 A224 = 'G92X1000.Y600.'
 
+# the entries of M00 and of M01
+STOP = (0, 0, 0, 'S')
+OPTIONAL = (0, 0, 0, 'O')
+
 
 class R:
     """A refusal: number and line."""
@@ -14,17 +18,17 @@ class R:
         self.number, self.line = number, line
 
 
-class H:
-    """Hits: how many, and some of them by index from 1 (or -1 for the last), each X, Y, tool, mode."""
+class E:
+    """Entries: how many, and some of them by index from 1 (or -1 for the last), each X, Y, tool, mode."""
 
     def __init__(self, count, some=None):
         self.count = count
         self.some = some or {}
 
 
-def all_of(*hits):
-    """Every hit."""
-    return H(len(hits), dict(enumerate(hits, 1)))
+def all_of(*entries):
+    """Every entry."""
+    return E(len(entries), dict(enumerate(entries, 1)))
 
 
 def p(body, head=A222):
@@ -45,16 +49,16 @@ def case(name, text, answer, reason, length=16384, setting=1):
 def spent(n, extra=()):
     """Lines after which exactly n blocks have been carried out: G92, four stored bodies and calls of them.
 
-    A W61 costs 11 blocks (itself and ten M0), W62 111, W63 1,111, W64 11,111. extra: lines of further U blocks that
+    A W61 costs 11 blocks (itself and ten M08), W62 111, W63 1,111, W64 11,111. extra: lines of further U blocks that
     are stored first, each U line counting one."""
     lines = [A222]
-    lines += ['U61'] + ['M0'] * 10 + ['V61']
+    lines += ['U61'] + ['M08'] * 10 + ['V61']
     lines += ['U62'] + ['W61'] * 10 + ['V62']
     lines += ['U63'] + ['W62'] * 10 + ['V63']
     lines += ['U64'] + ['W63'] * 10 + ['V64']
     lines += list(extra)
     left = n - 5 - sum(1 for l in extra if l[0] == 'U') - sum(1 for l in extra if l[:3] == 'G98')
-    for cost, call in ((11111, 'W64'), (1111, 'W63'), (111, 'W62'), (11, 'W61'), (1, 'M0')):
+    for cost, call in ((11111, 'W64'), (1111, 'W63'), (111, 'W62'), (11, 'W61'), (1, 'M08')):
         lines += [call] * (left // cost)
         left %= cost
     return lines
