@@ -1,13 +1,14 @@
 #!/usr/bin/env python3
 """Holds the sample plates to their drawings, and looks for places that are hit twice.
 
-    plates/check.py            each plate of this folder: its hits are those of its drawing, no place is hit twice with
-                               one tool, holes lie within the plate, no two of them meet but the hits of a slot, and
-                               tools that cut an edge lie against it from outside
+    plates/check.py            each plate of this folder: its hits and stops are those of its drawing, no place is hit
+                               twice with one tool, holes lie within the plate and beside its windows, no two of them
+                               meet but the hits of a slot, and tools that cut an edge lie against it, the plate's
+                               from outside, a window's from inside
     plates/check.py LISTING..  listings that hitlist printed (- for standard input): no place twice with one tool
 
-It ends with 1 if something is wrong. The hits are those of the expander in crates/cases/derive, so nothing has to be
-built; the golden cases hold the library to the same listings.
+It ends with 1 if something is wrong. The entries, hits and stops, are those of the expander in crates/cases/derive, so
+nothing has to be built; the golden cases hold the library to the same listings.
 """
 import math
 import os
@@ -23,42 +24,76 @@ DIAMETERS = {2: 700, 3: 300, 4: 350, 5: 450, 6: 660, 7: 400, 8: 550, 9: 500, 14:
 SIDES = {10: (5000, 500), 11: (500, 5000)}
 
 
-def twice(hits):
+def is_stop(entry):
+    """A stop, by M00 or by M01, has no place that is hit."""
+    return entry[3] in ('S', 'O')
+
+
+def counted(entries):
+    """How many hits there are, and stops if there are any."""
+    stops = sum(map(is_stop, entries))
+    return '%d hits' % (len(entries) - stops) + (' and %d stop%s' % (stops, 's' if stops > 1 else '') if stops else '')
+
+
+def twice(entries):
     """What is said of each hit on a place that its tool has hit before."""
     seen, said = {}, []
-    for index, (x, y, tool, mode) in enumerate(hits, 1):
-        first = seen.setdefault((x, y, tool), index)
+    for index, entry in enumerate(entries, 1):
+        x, y, tool, mode = entry
+        first = index if is_stop(entry) else seen.setdefault((x, y, tool), index)
         if first != index:
-            said.append('hits %d and %d are one place, %d %d, with tool %d' % (first, index, x, y, tool))
+            said.append('entries %d and %d are one place, %d %d, with tool %d' % (first, index, x, y, tool))
     return said
 
 
+def holes_of(drawing):
+    """The hits of round tools."""
+    return [entry for entry in drawing.drawn if entry[2] in DIAMETERS]
+
+
+def cuts_of(drawing):
+    """The hits of rectangular tools."""
+    return [entry for entry in drawing.drawn if entry[2] in SIDES]
+
+
+def in_hundredths(sizes):
+    return [round(100 * size) for size in sizes]
+
+
 def outside(drawing):
-    """Holes that pass the plate's edge."""
-    width, height = (100 * side for side in drawing.size)
+    """Holes that pass the plate's edge or that of a window."""
+    width, height = in_hundredths(drawing.size)
+    windows = [in_hundredths(window) for window in drawing.windows]
     said = []
-    for x, y, tool, mode in drawing.holes:
+    for x, y, tool, mode in holes_of(drawing):
         radius = DIAMETERS[tool] / 2
         if min(x, y, width - x, height - y) < radius:
             said.append('the hole at %d %d passes the edge' % (x, y))
+        for left, low, across, up in windows:
+            if math.hypot(max(left - x, 0, x - left - across), max(low - y, 0, y - low - up)) < radius:
+                said.append('the hole at %d %d meets a window' % (x, y))
     return said
 
 
 def off_the_edge(drawing):
-    """Cuts whose tool does not lie against the plate from outside: into the plate, or away from it."""
-    width, height = (round(100 * side) for side in drawing.size)
+    """Cuts whose tool lies neither against the plate from outside nor against a window from inside: into the plate, or away
+    from the edge."""
+    width, height = in_hundredths(drawing.size)
+    windows = [in_hundredths(window) for window in drawing.windows]
     said = []
-    for x, y, tool, mode in drawing.cuts:
-        wide, high = SIDES[tool]
-        gap = max(-x - wide // 2, x - wide // 2 - width, -y - high // 2, y - high // 2 - height)
-        if gap != 0:
+    for x, y, tool, mode in cuts_of(drawing):
+        wide, high = SIDES[tool][0] // 2, SIDES[tool][1] // 2
+        gaps = [max(-x - wide, x - wide - width, -y - high, y - high - height)]
+        gaps += [min(x - wide - left, left + across - x - wide, y - high - low, low + up - y - high)
+                 for left, low, across, up in windows]
+        if 0 not in gaps:
             said.append('the cut at %d %d is not against the edge' % (x, y))
     return said
 
 
 def least_metal(drawing):
     """The least metal between two holes, in hundredths; the hits of a slot are one hole."""
-    holes = drawing.holes
+    holes = holes_of(drawing)
     return min(math.dist(a[:2], b[:2]) - (DIAMETERS[a[2]] + DIAMETERS[b[2]]) / 2
                for i, a in enumerate(holes) for b in holes[:i] if 'P' in (a[3], b[3]))
 
@@ -68,12 +103,12 @@ def check_plate(name, drawing):
     from expander import expand
     with open(os.path.join(HOME, name + '.nc'), 'rb') as file:
         text = file.read()
-    number, hits = expand(text, 16384)
+    number, rest = expand(text, 16384)
     if number:
-        return ['refusal %d in line %d' % (number, hits)]
-    said = twice(hits) + outside(drawing) + off_the_edge(drawing)
-    if hits != drawing.hits():
-        said.append('the hits are not those of the drawing')
+        return ['refusal %d in line %d' % (number, rest)]
+    said = twice(rest) + outside(drawing) + off_the_edge(drawing)
+    if rest != drawing.entries():
+        said.append('the hits and stops are not those of the drawing')
     if least_metal(drawing) <= 0:
         said.append('two holes meet')
     golden = os.path.join(CASES, 'data', 'samples-%s.nc' % name)
@@ -91,29 +126,29 @@ def check_plates():
         wrong += ['%s: %s' % (name, what) for what in said]
         if not said:
             metal = least_metal(drawing) / 100
-            print('%s: %d hits, as drawn, no place twice, %.2f mm between holes' % (name, len(drawing.hits()), metal))
+            print('%s: %s, as drawn, no place twice, %.2f mm between holes' % (name, counted(drawing.drawn), metal))
     return wrong
 
 
-def hits_of(lines):
-    """The hits of a listing, or None where it is none or is cut short."""
+def entries_of(lines):
+    """The entries of a listing, or None where it is none or is cut short."""
     try:
         head, count = lines[0].split()
-        hits = [(int(x), int(y), int(tool), mode) for index, x, y, tool, mode in (line.split() for line in lines[1:])]
+        entries = [(int(x), int(y), int(tool), mode) for index, x, y, tool, mode in (line.split() for line in lines[1:])]
     except (IndexError, ValueError):
         return None
-    return hits if head == 'HITS' and count == str(len(hits)) else None
+    return entries if head == 'ENTRIES' and count == str(len(entries)) else None
 
 
 def check_listings(names):
     wrong = []
     for name in names:
         lines = (sys.stdin if name == '-' else open(name)).read().splitlines()
-        hits = hits_of(lines)
-        said = ['not a whole listing of hits'] if hits is None else twice(hits)
+        entries = entries_of(lines)
+        said = ['not a whole listing'] if entries is None else twice(entries)
         wrong += ['%s: %s' % (name, what) for what in said]
         if not said:
-            print('%s: %d hits, no place twice' % (name, len(hits)))
+            print('%s: %s, no place twice' % (name, counted(entries)))
     return wrong
 
 
