@@ -29,11 +29,15 @@ ends 0 c++ -std=c++11 -O2 -Wall -Wextra -Werror -pedantic -o "$out/empty" bindin
 ends 0 "$out/empty"
 ends 0 target/example
 for plate in plates/*.nc; do
-    target/bin/hitlist <"$plate" >"$out/hits"
+    target/bin/hitlist <"$plate" >"$out/listing"
     ends 0 target/example "$plate"
-    cmp -s "$out/hits" "$out/printed" || fail "$plate by name"
-    target/example - <"$plate" | cmp -s "$out/hits" - || fail "$plate from standard input"
+    cmp -s "$out/listing" "$out/printed" || fail "$plate by name"
+    target/example - <"$plate" | cmp -s "$out/listing" - || fail "$plate from standard input"
 done
+printf 'G92X600.Y600.\nM0\nM12\nX1.Y2.T3\nM01\nM08\nG50\n' >"$out/stops.nc"
+printf 'ENTRIES 3\n1 0 0 0 S\n2 100 200 3 N\n3 0 0 0 O\n' >"$out/listing"
+ends 0 target/example "$out/stops.nc"
+cmp -s "$out/listing" "$out/printed" || fail "stops"
 printf 'G92X600.Y600.\nX-11.T1\nG50\n' >"$out/refused.nc"
 ends 1 target/example "$out/refused.nc"
 grep -q '^REFUSED 16 LINE 2$' "$out/printed" || fail "a refusal"
@@ -68,10 +72,14 @@ ends 0 cargo run --offline --example plate -- -0 "$out/millimetres.nc"
 ends 1 cargo run --offline --example plate -- "$out/millimetres.nc"
 ends 1 cargo run --offline --example plate -- "$out/refused.nc"
 ends 1 cargo run --offline --example plate -- no-such-file
-ends 0 cargo run --offline -p plain --example hits -- ../../plates/tip-rack.nc
-ends 0 cargo run --offline -p plain --example hits -- -0 "$out/millimetres.nc"
-ends 1 cargo run --offline -p plain --example hits -- "$out/millimetres.nc"
-ends 2 cargo run --offline -p plain --example hits
+ends 0 cargo run --offline --example plate -- "$out/stops.nc"
+cmp -s "$out/listing" "$out/printed" || fail "stops by plate"
+ends 0 cargo run --offline -p plain --example entries -- "$out/stops.nc"
+cmp -s "$out/listing" "$out/printed" || fail "stops by the plain expander"
+ends 0 cargo run --offline -p plain --example entries -- ../../plates/tip-rack.nc
+ends 0 cargo run --offline -p plain --example entries -- -0 "$out/millimetres.nc"
+ends 1 cargo run --offline -p plain --example entries -- "$out/millimetres.nc"
+ends 2 cargo run --offline -p plain --example entries
 ends 0 cargo run --offline --release --bin compare -- 10000 1
 ends 2 cargo run --offline --release --bin compare -- 0
 ends 2 cargo run --offline --release --bin compare -- 2 18446744073709551615

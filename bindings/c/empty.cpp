@@ -33,13 +33,16 @@ static std::vector<uint8_t> bytes(const char *text)
 
 int main()
 {
-    const std::vector<uint8_t> no_hit = bytes("G92X600.Y600.\nG50\n");
+    const std::vector<uint8_t> no_entry = bytes("G92X600.Y600.\nG50\n");
     const std::vector<uint8_t> one_hit = bytes("G92X600.Y600.\nX1T1\nG50\n");
+    const std::vector<uint8_t> one_stop = bytes("G92X600.Y600.\nM00\nG50\n");
 
     expect("both empty", {}, {}, TOLKJIRP_TEXT_LENGTH, 0, 0);
     expect("no text", {}, {7, 7, 7, 7}, TOLKJIRP_TEXT_LENGTH, 0, 0);
-    expect("no list, no hit", no_hit, {}, TOLKJIRP_ACCEPTED, 0, 0);
+    expect("no list, no entry", no_entry, {}, TOLKJIRP_ACCEPTED, 0, 0);
     expect("no list, a hit", one_hit, {}, TOLKJIRP_LIST_FULL, 0, 2);
+    expect("no list, a stop", one_stop, {}, TOLKJIRP_LIST_FULL, 0, 2);
     expect("a hit", one_hit, {7, 7, 7, 7}, TOLKJIRP_ACCEPTED, 1, 0);
+    expect("a stop", one_stop, {7, 7, 7, 7}, TOLKJIRP_ACCEPTED, 1, 0);
     return is_wrong;
 }

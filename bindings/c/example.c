@@ -1,7 +1,7 @@
 /*
- * Expands a plate and prints its hits as hitlist does.
+ * Expands a plate and prints its entries as hitlist does.
  *
- *     example         a line of three holes
+ *     example         a line of three holes, and a stop
  *     example FILE    the program text in a file
  *     example -       the program text on standard input
  *
@@ -13,7 +13,7 @@
  * degrees.
  *
  * It ends with 0 if the text is accepted, with 1 if it is refused, and with 2
- * if it can't be read or the hits can't be written. README.md has the commands
+ * if it can't be read or the list can't be written. README.md has the commands
  * that build it.
  */
 #include <errno.h>
@@ -23,8 +23,8 @@
 
 #include "tolkjirp.h"
 
-/* Places for 4,096 hits, and room for one byte more than a text may have. */
-#define LIST_LENGTH (4096 * TOLKJIRP_NUMBERS_PER_HIT)
+/* Places for 4,096 entries, and room for one byte more than a text may have. */
+#define LIST_LENGTH (4096 * TOLKJIRP_NUMBERS_PER_ENTRY)
 #define TEXT_LENGTH (TOLKJIRP_LONGEST_TEXT + 1)
 
 enum status { IS_ACCEPTED = 0, IS_REFUSED = 1, HAS_FAILED = 2 };
@@ -33,6 +33,7 @@ static const char plate[] =
     "G92 X600. Y600.\n"
     "G90 X100. Y100. T2\n"
     "G28 I10. J45. K2\n"
+    "M00\n"
     "G50\n";
 
 static uint8_t text[TEXT_LENGTH];
@@ -45,14 +46,28 @@ static enum status fail(const char *what)
     return HAS_FAILED;
 }
 
-static void print_hits(uint64_t count)
+/* The letter that stands for a mode. */
+static char mode_letter(int32_t mode)
 {
-    printf("HITS %" PRIu64 "\n", count);
+    switch (mode) {
+    case TOLKJIRP_PUNCH:
+        return 'P';
+    case TOLKJIRP_NIBBLE:
+        return 'N';
+    case TOLKJIRP_STOP:
+        return 'S';
+    default: /* TOLKJIRP_OPTIONAL_STOP */
+        return 'O';
+    }
+}
+
+static void print_entries(uint64_t count)
+{
+    printf("ENTRIES %" PRIu64 "\n", count);
     for (uint64_t index = 0; index < count; index++) {
-        const int32_t *hit = list + TOLKJIRP_NUMBERS_PER_HIT * index;
-        char mode = hit[3] == TOLKJIRP_NIBBLE ? 'N' : 'P';
+        const int32_t *entry = list + TOLKJIRP_NUMBERS_PER_ENTRY * index;
         printf("%" PRIu64 " %" PRId32 " %" PRId32 " %" PRId32 " %c\n",
-               index + 1, hit[0], hit[1], hit[2], mode);
+               index + 1, entry[0], entry[1], entry[2], mode_letter(entry[3]));
     }
 }
 
@@ -69,7 +84,7 @@ static enum status expand(int32_t setting, size_t length)
 
     tolkjirp_expand(setting, text, length, list, LIST_LENGTH, answer);
     if (answer[TOLKJIRP_REFUSAL] == TOLKJIRP_ACCEPTED)
-        print_hits(answer[TOLKJIRP_COUNT]);
+        print_entries(answer[TOLKJIRP_COUNT]);
     else
         print_refusal(answer[TOLKJIRP_REFUSAL], answer[TOLKJIRP_LINE]);
     if (fflush(stdout) != 0 || ferror(stdout))

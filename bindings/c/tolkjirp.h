@@ -1,5 +1,5 @@
 /*
- * Tolkjirp: from ARIES punch code to the list of hits.
+ * Tolkjirp: from ARIES punch code to the list of hits and stops for the press.
  *
  * Link with libtolkjirp.a, which `rt staticlib tolkjirp` writes to
  * target/staticlib at the repository's root. It is for Linux on x86-64. The
@@ -16,7 +16,7 @@ extern "C" {
 #endif
 
 /* The version of this header and of the library that it comes with. */
-#define TOLKJIRP_VERSION "0.4.0"
+#define TOLKJIRP_VERSION "0.5.0"
 
 /* The most bytes that a text may have; a longer one is refused. */
 #define TOLKJIRP_LONGEST_TEXT 60000
@@ -30,16 +30,24 @@ enum tolkjirp_setting {
     TOLKJIRP_HUNDREDTHS = 1   /* hundredths of them: X100 is 1 mm */
 };
 
-/* How many numbers of the list a hit takes: X, Y, tool, mode. */
-#define TOLKJIRP_NUMBERS_PER_HIT 4
+/*
+ * How many numbers of the list an entry takes: X, Y, tool, mode. An entry is a
+ * hit or a stop; of a stop, X, Y and tool are zero.
+ */
+#define TOLKJIRP_NUMBERS_PER_ENTRY 4
 
-/* The modes of hits. */
-#define TOLKJIRP_PUNCH 0
-#define TOLKJIRP_NIBBLE 1
+/* The modes of entries. */
+enum tolkjirp_mode {
+    TOLKJIRP_PUNCH = 0,        /* a hit */
+    TOLKJIRP_NIBBLE = 1,       /* a hit between M12 and M13 */
+    TOLKJIRP_STOP = 2,         /* no hit: the press stops, M00 */
+    TOLKJIRP_OPTIONAL_STOP = 3 /* no hit: the press stops if its optional stop
+                                  is switched on, M01 */
+};
 
 /* What the three numbers of an answer are. */
 #define TOLKJIRP_REFUSAL 0 /* the refusal, 1 to 18; 0 if the text is accepted */
-#define TOLKJIRP_COUNT 1   /* the count of hits; 0 if the text is refused */
+#define TOLKJIRP_COUNT 1   /* the count of entries; 0 if the text is refused */
 #define TOLKJIRP_LINE 2    /* the line of the refusal, from 1; 0 if the text is
                               accepted or its length is refused */
 
@@ -108,7 +116,7 @@ static inline const char *tolkjirp_refusal_text(uint64_t refusal)
     case TOLKJIRP_OUT_OF_RANGE:
         return "a place is outside the machine's range";
     case TOLKJIRP_LIST_FULL:
-        return "the list has no place left for a hit";
+        return "the list has no place left for an entry";
     case TOLKJIRP_SHEAR_UNFIT:
         return "the numbers of a G66 don't fit together";
     default:
@@ -117,7 +125,7 @@ static inline const char *tolkjirp_refusal_text(uint64_t refusal)
 }
 
 /*
- * Expands a program text into a list of hits.
+ * Expands a program text into a list of entries.
  *
  * setting              The decimal point setting of the whole text, as named
  *                      above: 0; any other number counts as 1.
@@ -125,19 +133,21 @@ static inline const char *tolkjirp_refusal_text(uint64_t refusal)
  *                      degrees is refused by TOLKJIRP_NUMBER_RANGE.
  * text, text_length    The program, in bytes. It needs no zero byte at its end,
  *                      and any bytes may stand in it.
- * list, list_length    The list, in numbers. Each hit takes four of them: X and
- *                      Y in hundredths of a millimetre, the tool (1 to 99), and
- *                      the mode (0 punching, 1 nibbling). Fewer than four
- *                      numbers at the end are no place for a hit. What the list
- *                      holds before the call does not matter.
+ * list, list_length    The list, in numbers. Each entry takes four of them. Of
+ *                      a hit they are X and Y in hundredths of a millimetre,
+ *                      the tool (1 to 99), and the mode (0 punching, 1
+ *                      nibbling); of a stop they are 0, 0, 0 and the mode (2,
+ *                      or 3 for an optional stop). Fewer than four numbers at
+ *                      the end are no place for an entry. What the list holds
+ *                      before the call does not matter.
  * answer               Three numbers, as named above.
  *
  * After the call, the first 4 * answer[TOLKJIRP_COUNT] numbers of the list are
- * the hits in order and the others are zero; after a refusal all are zero.
+ * the entries in order and the others are zero; after a refusal all are zero.
  *
  * With a length of 0 the pointer is not used, and may be null, as that of an
  * empty std::vector: an empty text is refused by TOLKJIRP_TEXT_LENGTH, and an
- * empty list has no place for a hit.
+ * empty list has no place for an entry.
  *
  * The caller ensures that
  * - text points to text_length readable bytes,

@@ -1,4 +1,5 @@
-//! Expands a plate and prints its hits: that of a file, or a tip rack of eight by twelve holes, twice on the sheet.
+//! Expands a plate and prints its entries as `hitlist` does: that of a file, or a tip rack of eight by twelve holes,
+//! twice on the sheet, with a stop behind each.
 //!
 //! `plate [FILE]` goes by decimal point setting 1, `plate -0 [FILE]` by setting 0, at which X100 is 100 mm.
 
@@ -7,7 +8,7 @@ use std::io::{self, BufWriter, Write};
 use std::process::ExitCode;
 use std::{env, fs};
 
-use tolkjirp::{expand, Hit, Setting};
+use tolkjirp::{expand, Entry, Setting};
 
 const PLATE: &str = "\
 G92 X600. Y600.
@@ -15,6 +16,7 @@ G98 X20. Y100. I250. J150. P1 K0
 U1
 X15. Y15. T2
 G36 I9. P11 J9. K7
+M00
 V1
 G75 W1 Q1
 G50
@@ -41,15 +43,15 @@ fn run() -> Result<(), Box<dyn Error>> {
         [name] => fs::read(name)?,
         _ => return Err("usage: plate [-0] [FILE]".into()),
     };
-    print_hits(&expand(setting, &text, 4096)?)?;
+    print_entries(&expand(setting, &text, 4096)?)?;
     Ok(())
 }
 
-fn print_hits(hits: &[Hit]) -> io::Result<()> {
+fn print_entries(entries: &[Entry]) -> io::Result<()> {
     let mut out = BufWriter::new(io::stdout().lock());
-    writeln!(out, "HITS {}", hits.len())?;
-    for (index, hit) in hits.iter().enumerate() {
-        writeln!(out, "{} {hit}", index + 1)?;
+    writeln!(out, "ENTRIES {}", entries.len())?;
+    for (index, entry) in entries.iter().enumerate() {
+        writeln!(out, "{} {entry}", index + 1)?;
     }
     out.flush()
 }

@@ -5,12 +5,12 @@ use std::fmt;
 
 use crate::Refused;
 
-/// Why there are no hits.
+/// Why there are no entries.
 #[derive(Clone, Copy, Debug, PartialEq, Eq, Hash)]
 pub enum Failure {
     /// The program is refused.
     Refused(Refused),
-    /// The memory for the list or the hits can't be had.
+    /// The memory for the list or the entries can't be had.
     NoMemory,
 }
 
@@ -24,7 +24,7 @@ impl fmt::Display for Failure {
     fn fmt(&self, f: &mut fmt::Formatter) -> fmt::Result {
         match self {
             Failure::Refused(refused) => refused.fmt(f),
-            Failure::NoMemory => f.write_str("there is no memory for so many hits"),
+            Failure::NoMemory => f.write_str("there is no memory for so many entries"),
         }
     }
 }

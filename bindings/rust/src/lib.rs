@@ -1,39 +1,40 @@
 //! Safe Rust interface to the proved expander of ARIES punch code.
 //!
-//! A program text goes in, with the decimal point setting that it is written for; the list of hits that the press will
-//! make comes out, or a refusal with its line.
+//! A program text goes in, with the decimal point setting that it is written for; the list of entries for the press
+//! comes out, or a refusal with its line. An entry is a hit, or a stop: that of M00, or the optional one of M01.
 //!
 //! ```
-//! use tolkjirp::{expand, Hit, Mode, Setting};
+//! use tolkjirp::{expand, Entry, Hit, Mode, Setting};
 //!
-//! let text = b"G92 X600. Y600.\nG90 X100. Y100. T2\nG28 I10. J45. K2\nG50\n";
-//! let hits = expand(Setting::Hundredths, text, 4096)?;
-//! assert_eq!(hits.len(), 3);
-//! assert_eq!(hits[1], Hit { x: 10707, y: 10707, tool: 2, mode: Mode::Punch });
+//! let text = b"G92 X600. Y600.\nG90 X100. Y100. T2\nG28 I10. J45. K2\nM00\nG50\n";
+//! let entries = expand(Setting::Hundredths, text, 4096)?;
+//! assert_eq!(entries.len(), 4);
+//! assert_eq!(entries[1], Entry::Hit(Hit { x: 10707, y: 10707, tool: 2, mode: Mode::Punch }));
+//! assert_eq!(entries[3], Entry::Stop { optional: false });
 //!
-//! let in_millimetres = b"G92 X600 Y600\nG90 X100 Y100 T2\nG28 I10 J45 K2\nG50\n";
-//! assert_eq!(expand(Setting::Millimetres, in_millimetres, 4096)?, hits);
+//! let in_millimetres = b"G92 X600 Y600\nG90 X100 Y100 T2\nG28 I10 J45 K2\nM00\nG50\n";
+//! assert_eq!(expand(Setting::Millimetres, in_millimetres, 4096)?, entries);
 //! # Ok::<(), tolkjirp::Failure>(())
 //! ```
 //!
 //! The library keeps no state, so threads may call it at the same time. A call uses up to 84 kB of the stack, whatever
 //! the text; that is measured and not proved, so a thread of its own should have 128 kB or more.
 
+mod entry;
 mod failure;
-mod hit;
 mod library;
 mod refusal;
 mod setting;
 
+pub use entry::{Entries, Entry, Hit, Mode, NUMBERS_PER_ENTRY};
 pub use failure::Failure;
-pub use hit::{Hit, Hits, Mode, NUMBERS_PER_HIT};
 pub use refusal::{NoSuchRefusal, Refusal, Refused};
 pub use setting::Setting;
 
 /// The most bytes that a text may have; a longer one is refused.
 pub const LONGEST_TEXT: usize = 60_000;
 
-/// Expands a program text at a setting, with places for so many hits.
+/// Expands a program text at a setting, with places for so many entries.
 ///
 /// Fails if the text is refused, or if the memory for so many places can't be had.
 ///
@@ -42,56 +43,60 @@ pub const LONGEST_TEXT: usize = 60_000;
 ///
 /// let failure = expand(Setting::Hundredths, b"G92 X600. Y600.\nX10. T2\nY10.\nG50\n", 1).unwrap_err();
 /// assert_eq!(failure, Failure::Refused(Refused { refusal: Refusal::ListFull, line: 3 }));
-/// assert_eq!(failure.to_string(), "refusal 17 in line 3: the list has no place left for a hit");
+/// assert_eq!(failure.to_string(), "refusal 17 in line 3: the list has no place left for an entry");
 ///
 /// let failure = expand(Setting::Hundredths, b"G92 X600. Y600.\nG50\n", usize::MAX).unwrap_err();
 /// assert_eq!(failure, Failure::NoMemory);
 /// ```
-pub fn expand(setting: Setting, text: &[u8], places: usize) -> Result<Vec<Hit>, Failure> {
+pub fn expand(setting: Setting, text: &[u8], places: usize) -> Result<Vec<Entry>, Failure> {
     let mut list = zeros(places)?;
-    let hits = expand_into(setting, text, &mut list)?;
+    let entries = expand_into(setting, text, &mut list)?;
     let mut taken = Vec::new();
-    taken.try_reserve_exact(hits.len()).map_err(|_| Failure::NoMemory)?;
-    taken.extend(hits);
+    taken.try_reserve_exact(entries.len()).map_err(|_| Failure::NoMemory)?;
+    taken.extend(entries);
     Ok(taken)
 }
 
-/// A list with places for so many hits.
+/// A list with places for so many entries.
 fn zeros(places: usize) -> Result<Vec<i32>, Failure> {
-    let length = places.checked_mul(NUMBERS_PER_HIT).ok_or(Failure::NoMemory)?;
+    let length = places.checked_mul(NUMBERS_PER_ENTRY).ok_or(Failure::NoMemory)?;
     let mut list = Vec::new();
     list.try_reserve_exact(length).map_err(|_| Failure::NoMemory)?;
     list.resize(length, 0);
     Ok(list)
 }
 
-/// Expands a program text at a setting into a lent list, and gives the hits in it; nothing is allocated.
+/// Expands a program text at a setting into a lent list, and gives the entries in it; nothing is allocated.
 ///
-/// A hit takes four numbers: X, Y, tool and mode (0 punching, 1 nibbling). The numbers after the hits, and after a
-/// refusal all numbers, are zero. Fewer than four numbers at the end of the list are no place for a hit.
+/// An entry takes four numbers: X, Y, tool and mode (0 punching, 1 nibbling, 2 a stop, 3 an optional stop). X, Y and
+/// tool of a stop are zero. The numbers after the entries, and after a refusal all numbers, are zero. Fewer than four
+/// numbers at the end of the list are no place for an entry.
 ///
 /// ```
-/// use tolkjirp::{expand_into, Refusal, Setting};
+/// use tolkjirp::{expand_into, Entry, Refusal, Setting};
 ///
-/// let mut list = [-1; 6];
-/// let hits = expand_into(Setting::Hundredths, b"G92 X600. Y600.\nX10. T2\nG50", &mut list)?;
-/// assert_eq!(hits.len(), 1);
-/// for hit in hits {
-///     assert_eq!((hit.x, hit.y, hit.tool), (1000, 60000, 2));
+/// let mut list = [-1; 10];
+/// let entries = expand_into(Setting::Hundredths, b"G92 X600. Y600.\nM01\nX10. T2\nG50", &mut list)?;
+/// assert_eq!(entries.len(), 2);
+/// for entry in entries {
+///     match entry {
+///         Entry::Hit(hit) => assert_eq!((hit.x, hit.y, hit.tool), (1000, 60000, 2)),
+///         Entry::Stop { optional } => assert!(optional),
+///     }
 /// }
-/// assert_eq!(list, [1000, 60000, 2, 0, 0, 0]);
+/// assert_eq!(list, [0, 0, 0, 3, 1000, 60000, 2, 0, 0, 0]);
 ///
-/// let refused = expand_into(Setting::Hundredths, b"G92 X600. Y600.\nX10.\nG50", &mut list).unwrap_err();
-/// assert_eq!((refused.refusal, refused.line), (Refusal::NoTool, 2));
-/// assert_eq!(list, [0; 6]);
+/// let refused = expand_into(Setting::Hundredths, b"G92 X600. Y600.\nM00\nX10.\nG50", &mut list).unwrap_err();
+/// assert_eq!((refused.refusal, refused.line), (Refusal::NoTool, 3));
+/// assert_eq!(list, [0; 10]);
 /// # Ok::<(), tolkjirp::Refused>(())
 /// ```
-pub fn expand_into<'a>(setting: Setting, text: &[u8], list: &'a mut [i32]) -> Result<Hits<'a>, Refused> {
-    let most = list.len() / NUMBERS_PER_HIT;
+pub fn expand_into<'a>(setting: Setting, text: &[u8], list: &'a mut [i32]) -> Result<Entries<'a>, Refused> {
+    let most = list.len() / NUMBERS_PER_ENTRY;
     match library::call(setting.number(), text, list) {
         [0, count, 0] => match usize::try_from(count) {
-            Ok(count) if count <= most => Ok(Hits::first(list, count)),
-            _ => panic!("the library counts {count} hits in a list for {most}"),
+            Ok(count) if count <= most => Ok(Entries::first(list, count)),
+            _ => panic!("the library counts {count} entries in a list for {most}"),
         },
         [number, 0, line] => Err(Refused::from_numbers(number, line)),
         answer => panic!("the library answers {answer:?}"),

@@ -12,7 +12,7 @@ extern "C" {
 }
 
 /// Expands a text at the setting of a number into a list, and gives the three numbers of the answer: refusal, count of
-/// hits, line.
+/// entries, line.
 pub fn call(setting: i32, text: &[u8], list: &mut [i32]) -> [u64; 3] {
     let mut answer = [0; 3];
     // SAFETY: the pointers and lengths come from slices, so they are not null, are valid for so many elements, and

@@ -41,7 +41,7 @@ pub enum Refusal {
     TooFar = 15,
     /// A hit or the end of a move is outside the machine's range.
     OutOfRange = 16,
-    /// The list has no place left for a hit.
+    /// The list has no place left for an entry.
     ListFull = 17,
     /// The numbers of a G66 don't fit together: P and Q differ in sign or one is zero, the size of P is not above 1 mm, I is
     /// under 1.5 times that size, or I with D at both ends is under it. That is checked before the block's hits.
@@ -95,7 +95,7 @@ impl Refusal {
             Refusal::NoTool => "no tool is chosen",
             Refusal::TooFar => "a place or a reach passes 9,999.99 mm",
             Refusal::OutOfRange => "a place is outside the machine's range",
-            Refusal::ListFull => "the list has no place left for a hit",
+            Refusal::ListFull => "the list has no place left for an entry",
             Refusal::ShearUnfit => "the numbers of a G66 don't fit together",
         }
     }

@@ -6,7 +6,19 @@ fn program(blocks: &str) -> Vec<u8> {
     format!("G92 X600. Y600.\n{blocks}\nG50\n").into_bytes()
 }
 
-/// The refusal of a text, with places for so many hits.
+/// The hits of a text at a setting, with places for so many entries and no stop among them.
+fn hits(setting: Setting, text: &[u8], places: usize) -> Vec<Hit> {
+    let entries = expand(setting, text, places).unwrap();
+    entries.iter().map(|entry| entry.hit().expect("no stop")).collect()
+}
+
+/// The entries of blocks as they are printed.
+fn printed(blocks: &str) -> Vec<String> {
+    let entries = expand(Hundredths, &program(blocks), 4096).unwrap();
+    entries.iter().map(Entry::to_string).collect()
+}
+
+/// The refusal of a text, with places for so many entries.
 fn refused(text: &[u8], places: usize) -> Refused {
     match expand(Hundredths, text, places) {
         Err(Failure::Refused(refused)) => refused,
@@ -41,7 +53,7 @@ fn refusals_are_told_apart_in_words() {
 
 #[test]
 fn a_rack_of_eight_by_twelve_has_96_hits() {
-    let hits = expand(Hundredths, &program("X50. Y50. T2\nG36 I9. P11 J9. K7"), 4096).unwrap();
+    let hits = hits(Hundredths, &program("X50. Y50. T2\nG36 I9. P11 J9. K7"), 4096);
     assert_eq!(hits.len(), 96);
     assert_eq!((hits[1].x, hits[1].y), (5900, 5000));
     assert_eq!((hits[95].x, hits[95].y), (5000, 11300));
@@ -51,7 +63,7 @@ fn a_rack_of_eight_by_twelve_has_96_hits() {
 fn copies_follow_the_layout() {
     let layout = "G98 X20. Y100. I250. J150. P1 K1\nU1\nX10. Y10. T2\nV1\n";
     let places = |run: &str| -> Vec<_> {
-        let hits = expand(Hundredths, &program(&format!("{layout}{run}")), 4).unwrap();
+        let hits = hits(Hundredths, &program(&format!("{layout}{run}")), 4);
         hits.iter().map(|hit| (hit.x, hit.y)).collect()
     };
     assert_eq!(
@@ -68,7 +80,7 @@ fn copies_follow_the_layout() {
 fn a_long_edge_is_cut_in_equal_steps() {
     let edge = |setting, block: &str| -> Vec<_> {
         let text = program(&format!("G72 X100. Y100.\n{block} T2"));
-        let hits = expand(setting, &text, 4096).unwrap();
+        let hits = hits(setting, &text, 4096);
         hits.iter().map(|hit| (hit.x, hit.y)).collect()
     };
     // 80 mm in steps of at most 19.5 mm: five of 16 mm
@@ -104,16 +116,60 @@ fn edges_that_do_not_fit_are_refused_before_their_hits() {
 
 #[test]
 fn modes_and_tools_are_given() {
-    let hits = expand(Hundredths, &program("X10. T7\nM12\nX20.\nM13\nX30. T99"), 3).unwrap();
-    let given: Vec<_> = hits.iter().map(Hit::to_string).collect();
-    assert_eq!(given, ["1000 60000 7 P", "2000 60000 7 N", "3000 60000 99 P"]);
+    assert_eq!(
+        printed("X10. T7\nM12\nX20.\nM13\nX30. T99"),
+        ["1000 60000 7 P", "2000 60000 7 N", "3000 60000 99 P"]
+    );
+}
+
+#[test]
+fn stops_are_entries() {
+    let stop = Entry::Stop { optional: false };
+    let optional_stop = Entry::Stop { optional: true };
+    // without a tool, by any writing of the code
+    let entries = expand(Hundredths, &program("M00\nM01\nM0\nN7 M 001\nM08"), 4).unwrap();
+    assert_eq!(entries, [stop, optional_stop, stop, optional_stop]);
+    assert_eq!(entries.into_iter().filter_map(Entry::hit).count(), 0);
+    // a waiting origin stays, and so does the mode
+    assert_eq!(
+        printed("M12\nG72 X10. Y20.\nM00\nG28 I5. J0 K1 T3\nM1"),
+        ["0 0 0 S", "1500 2000 3 N", "0 0 0 O"]
+    );
+}
+
+#[test]
+fn stops_are_not_moved_with_their_part() {
+    let part = "G98 X20. Y100. I250. P1\nU1\nX10. Y10. T2\nM00\nV1";
+    let (left, right) = ("3000 11000 2 P", "28000 11000 2 P");
+    assert_eq!(
+        printed(&format!("{part}\nG75 W1 Q2")),
+        [right, "0 0 0 S", left, "0 0 0 S"]
+    );
+}
+
+#[test]
+fn a_stop_needs_a_place() {
+    let text = program("X1. T2\nM00\n\nM01");
+    let mut list = [-1; 12];
+    assert_eq!(expand_into(Hundredths, &text, &mut list).unwrap().len(), 3);
+    assert_eq!(list, [100, 60_000, 2, 0, 0, 0, 0, 2, 0, 0, 0, 3]);
+    let list_full = |line| Refused {
+        refusal: Refusal::ListFull,
+        line,
+    };
+    assert_eq!(refused(&text, 2), list_full(5));
+    assert_eq!(refused(&text, 1), list_full(3));
+    assert_eq!(
+        refused(&text, 1).to_string(),
+        "refusal 17 in line 3: the list has no place left for an entry"
+    );
 }
 
 #[test]
 fn lengths_and_angles_without_a_point_go_by_the_setting() {
     let text = program("X100 Y2.5 T7\nG28 I5 J90 K1");
     let places = |setting| -> Vec<_> {
-        let hits = expand(setting, &text, 2).unwrap();
+        let hits = hits(setting, &text, 2);
         hits.iter().map(|hit| (hit.x, hit.y, hit.tool)).collect()
     };
     // the sine of 0.90 degrees is 0.0157, and five hundredths times that are rounded to nothing
@@ -125,14 +181,14 @@ fn lengths_and_angles_without_a_point_go_by_the_setting() {
 fn a_rack_in_whole_millimetres_is_the_same_rack() {
     let with_points = "G92 X600. Y600.\nX50. Y50. T2\nG36 I9. P11 J9. K7\nG50\n";
     let without = with_points.replace('.', "");
-    let hits = expand(Hundredths, with_points.as_bytes(), 96).unwrap();
-    assert_eq!(expand(Millimetres, with_points.as_bytes(), 96).unwrap(), hits);
-    assert_eq!(expand(Millimetres, without.as_bytes(), 96).unwrap(), hits);
+    let entries = expand(Hundredths, with_points.as_bytes(), 96).unwrap();
+    assert_eq!(expand(Millimetres, with_points.as_bytes(), 96).unwrap(), entries);
+    assert_eq!(expand(Millimetres, without.as_bytes(), 96).unwrap(), entries);
 }
 
 #[test]
 fn lengths_past_the_limit_are_refused_at_setting_0() {
-    let answer = |blocks| expand_into(Millimetres, &program(blocks), &mut []).map(|hits| hits.len());
+    let answer = |blocks| expand_into(Millimetres, &program(blocks), &mut []).map(|entries| entries.len());
     assert_eq!(answer("G72 X9999 Y-009999"), Ok(0));
     let refused = Refused {
         refusal: Refusal::NumberRange,
@@ -166,8 +222,10 @@ fn a_text_of_wrong_length_has_no_line() {
 #[test]
 fn empty_lists_are_allowed() {
     assert_eq!(expand_into(Hundredths, &program(""), &mut []).unwrap().len(), 0);
-    let refused = expand_into(Hundredths, &program("X1. T2"), &mut []).unwrap_err();
-    assert_eq!(refused.refusal, Refusal::ListFull);
+    for block in ["X1. T2", "M00", "M01"] {
+        let refused = expand_into(Hundredths, &program(block), &mut []).unwrap_err();
+        assert_eq!(refused.refusal, Refusal::ListFull, "{block}");
+    }
 }
 
 #[test]
@@ -186,10 +244,10 @@ fn the_rest_of_the_list_is_zero() {
 }
 
 #[test]
-fn hits_are_read_from_the_list() {
-    let mut list = [-1; 14];
-    let hits = expand_into(Hundredths, &program("X1. Y2. T3\nM12\nX4."), &mut list).unwrap();
-    assert_eq!(hits.len(), 2);
+fn entries_are_read_from_the_list() {
+    let mut list = [-1; 18];
+    let entries = expand_into(Hundredths, &program("X1. Y2. T3\nM12\nM01\nX4."), &mut list).unwrap();
+    assert_eq!(entries.len(), 3);
     let first = Hit {
         x: 100,
         y: 200,
@@ -201,8 +259,10 @@ fn hits_are_read_from_the_list() {
         mode: Mode::Nibble,
         ..first
     };
-    assert_eq!(hits.clone().collect::<Vec<_>>(), [first, second]);
-    assert_eq!(hits.rev().collect::<Vec<_>>(), [second, first]);
+    let (first, second) = (Entry::Hit(first), Entry::Hit(second));
+    let stop = Entry::Stop { optional: true };
+    assert_eq!(entries.clone().collect::<Vec<_>>(), [first, stop, second]);
+    assert_eq!(entries.rev().collect::<Vec<_>>(), [second, stop, first]);
 }
 
 #[test]
@@ -249,6 +309,22 @@ fn the_header_has_the_same_settings() {
     }
 }
 
+#[test]
+fn the_header_has_the_same_entries() {
+    assert!(HEADER.contains(&format!("#define TOLKJIRP_NUMBERS_PER_ENTRY {NUMBERS_PER_ENTRY}\n")));
+    for (name, numbers, letter) in [
+        ("PUNCH", [5, -5, 99, 0], "P"),
+        ("NIBBLE", [5, -5, 99, 1], "N"),
+        ("STOP", [0, 0, 0, 2], "S"),
+        ("OPTIONAL_STOP", [0, 0, 0, 3], "O"),
+    ] {
+        let [x, y, tool, mode] = numbers;
+        assert!(HEADER.contains(&format!("    TOLKJIRP_{name} = {mode}")), "{name}");
+        let entry = Entry::from_numbers(&numbers);
+        assert_eq!(entry.to_string(), format!("{x} {y} {tool} {letter}"));
+    }
+}
+
 /// A name such as TextLength as TEXT_LENGTH.
 fn capitals(name: &str) -> String {
     let parted = name.chars().enumerate().flat_map(|(place, letter)| {
@@ -272,7 +348,19 @@ fn an_unknown_refusal_is_caught() {
 }
 
 #[test]
-#[should_panic(expected = "gives the hit")]
+#[should_panic(expected = "gives the entry [0, 0, 0, 0]")]
 fn a_hit_without_tool_is_caught() {
-    Hit::from_numbers(&[0, 0, 0, 0]);
+    Entry::from_numbers(&[0, 0, 0, 0]);
+}
+
+#[test]
+#[should_panic(expected = "gives the entry [0, 0, 1, 2]")]
+fn a_stop_with_a_tool_is_caught() {
+    Entry::from_numbers(&[0, 0, 1, 2]);
+}
+
+#[test]
+#[should_panic(expected = "gives the entry [0, 0, 0, 4]")]
+fn an_unknown_mode_is_caught() {
+    Entry::from_numbers(&[0, 0, 0, 4]);
 }

@@ -12,5 +12,6 @@ pub mod random;
 pub mod samples;
 pub mod scribe;
 pub mod shears;
+pub mod stops;
 pub mod tally;
 pub mod workloads;

@@ -8,7 +8,7 @@ use crate::random::Random;
 /// A program padded to 59,998 to 60,002 bytes.
 pub fn long_text(random: &mut Random, program: Vec<u8>) -> Vec<u8> {
     let length = random.within(59_998..=60_002) as usize;
-    let padding = random.pick(&["\n", " ", "M8\n", "G91X0.01Y-0.01\n", "G70X1.Y1.\n", "A"]);
+    let padding = random.pick(&["\n", " ", "M8\n", "M0\n", "G91X0.01Y-0.01\n", "G70X1.Y1.\n", "A"]);
     let mut text = program;
     let first_line = text.iter().position(|&byte| byte == b'\n');
     let missing = length.saturating_sub(text.len());
@@ -49,7 +49,7 @@ fn body_of(random: &mut Random, size: usize) -> String {
     let mut body = String::new();
     let mut left = size;
     while left > 0 {
-        let line = random.pick(&["M8\n", "\n", "X1.\n", "  M 9 \n", "   \n", "G70X2.Y2.\n"]);
+        let line = random.pick(&["M8\n", "\n", "X1.\n", "  M 9 \n", "   \n", " M01\n", "G70X2.Y2.\n"]);
         let characters = line.bytes().filter(|&byte| byte != b' ').count();
         if characters <= left {
             body.push_str(line);
@@ -67,12 +67,21 @@ pub fn deep_calls(random: &mut Random, setting: Setting) -> Vec<u8> {
         let number = 60 + level;
         let call = if level == 1 {
             random
-                .pick(&["", "X20.\n", "M8\n", "W77\n", "W5\n", "G28I1.J0K3\n", "G66I3.J0P2.\n"])
+                .pick(&[
+                    "",
+                    "X20.\n",
+                    "M8\n",
+                    "M0\n",
+                    "W77\n",
+                    "W5\n",
+                    "G28I1.J0K3\n",
+                    "G66I3.J0P2.\n",
+                ])
                 .to_string()
         } else {
             format!("W{}\n", number - 1)
         };
-        let before = random.pick(&["", "M8\n", "G91X0.5\n"]);
+        let before = random.pick(&["", "M8\n", "M1\n", "G91X0.5\n"]);
         text.push_str(&format!("U{number}\n{before}{call}V{number}\n"));
     }
     let last = 60 + depth - 1;
@@ -88,7 +97,7 @@ pub fn deep_calls(random: &mut Random, setting: Setting) -> Vec<u8> {
 
 /// What comes when the blocks are spent, or nearly; a slash stands for a line feed.
 const LAST_BLOCKS: &str = "G50 G50 G50 W64 W64 G50/M0 G50/V5 G50/V95 G50/X V5 V5 V95 W60/G50 M8 X U61/V62 U60/V60 \
-    G98X9999.Y1.I1.P1/G75W60Q1/G50 G66I1.J0P1. G66I1.J0P1./G50";
+    M0 M0/G50 M1/M0/G50 G98X9999.Y1.I1.P1/G75W60Q1/G50 G66I1.J0P1. G66I1.J0P1./G50";
 
 /// Blocks near 100,000, through nested macros or through copies.
 pub fn many_blocks(random: &mut Random) -> Vec<u8> {
@@ -204,21 +213,25 @@ pub fn wide_patterns(random: &mut Random, setting: Setting) -> Vec<u8> {
             4 => format!("G66I{length}J{angle}P{along}"),
             _ => format!("G66I{length}J{angle}P{along}Q{across}D{extra}"),
         };
-        text.push_str(&format!("G72X{x}Y{y}\n{pattern}\n"));
+        let stop = random.pick(&["", "", "", "M0\n", "M01\n"]);
+        text.push_str(&format!("G72X{x}Y{y}\n{stop}{pattern}\n"));
     }
     text.push_str("G50\n");
     text.into_bytes()
 }
 
 /// Blocks that change the state before a run.
-const BEFORE_RUN: &str = "G72X300.Y300. M12 G91 G93X3.Y-2. A2G26I4.J0K3 T5X200.Y200. U2/X1./V2 B1 A2G66I4.J0P-2.5";
+const BEFORE_RUN: &str =
+    "G72X300.Y300. M12 G91 G93X3.Y-2. A2G26I4.J0K3 T5X200.Y200. U2/X1./V2 U2/M1/V2 B1 A2G66I4.J0P-2.5 M0 G72X9./M1";
 
 /// Blocks that change or show the state within a part.
 const IN_PART: &str = "X10.Y10. B1 B1 B2 M12 M13 G91X1. G90Y5.T7 G72X3.Y4. A1G36I2.P1J2.K1 A1G28I1.5J90.K3 W60 \
-    G70X2.T9 G91 G90 A2G29I3.J0P45.K3 G72Y1. G90G72X5. A1G66I3.J30.P2. G66I4.J120.P1.5D0.25T6 G91G66I3.J0P-2.";
+    G70X2.T9 G91 G90 A2G29I3.J0P45.K3 G72Y1. G90G72X5. A1G66I3.J30.P2. G66I4.J120.P1.5D0.25T6 G91G66I3.J0P-2. \
+    M0 M01 G72X6.Y5./M00 G72X4./M1/B1";
 
 /// Blocks that show the state after a run.
-const AFTER_RUN: &str = "B1 B2 G28I2.J0K2 G66I3.J45.P2.D-0.25 X-1. G91X1. G90X5. W60 Y3.T8 G72X1.Y1. G93X1. M8";
+const AFTER_RUN: &str =
+    "B1 B2 G28I2.J0K2 G66I3.J45.P2.D-0.25 X-1. G91X1. G90X5. W60 Y3.T8 G72X1.Y1. G93X1. M8 M0 M1/B1";
 
 /// A layout with a part that changes all of the state, and blocks that show the state afterwards.
 pub fn layout_states(random: &mut Random, setting: Setting) -> Vec<u8> {

@@ -2,15 +2,19 @@
 
 use std::fmt::Write;
 
-use tolkjirp::Setting;
+use tolkjirp::{Setting, NUMBERS_PER_ENTRY};
 
 use crate::libraries;
+
+/// The least mode of stops; hits have smaller ones.
+const FIRST_STOP_MODE: i32 = 2;
 
 /// The three numbers of an answer.
 #[derive(Clone, Copy, Debug, PartialEq, Eq)]
 pub struct Answer {
     /// The number of the refusal, 0 if the text is accepted.
     pub number: u8,
+    /// The count of entries.
     pub count: usize,
     pub line: u64,
 }
@@ -46,9 +50,9 @@ pub fn library(setting: i32, text: &[u8], list: &mut [i32]) -> Answer {
 
 fn safe_library(setting: Setting, text: &[u8], list: &mut [i32]) -> Answer {
     match tolkjirp::expand_into(setting, text, list) {
-        Ok(hits) => Answer {
+        Ok(entries) => Answer {
             number: 0,
-            count: hits.len(),
+            count: entries.len(),
             line: 0,
         },
         Err(refused) => Answer {
@@ -62,7 +66,7 @@ fn safe_library(setting: Setting, text: &[u8], list: &mut [i32]) -> Answer {
 /// What the plain expander answers.
 pub fn plain(setting: i32, text: &[u8], list: &mut [i32]) -> Answer {
     match plain::expand(setting, text, list) {
-        plain::Answer::Hits(count) => Answer {
+        plain::Answer::Entries(count) => Answer {
             number: 0,
             count,
             line: 0,
@@ -147,5 +151,11 @@ impl Pair {
             other: (other.name, answer),
             place: first.iter().zip(second.iter()).position(|(a, b)| a != b),
         })
+    }
+
+    /// How many of the entries are stops after a comparison that came to an answer.
+    pub fn stops(&self, answer: Answer) -> usize {
+        let entries = self.first.chunks_exact(NUMBERS_PER_ENTRY).take(answer.count);
+        entries.filter(|entry| entry[3] >= FIRST_STOP_MODE).count()
     }
 }

@@ -67,12 +67,15 @@ impl Programmer {
 
     /// One block or a few that belong together.
     pub fn step(&mut self) {
-        let steps = if self.is_within_body { 12 } else { 18 };
+        let steps = if self.is_within_body { 13 } else { 19 };
         match self.scribe.random.below(steps) {
             0..=2 => self.position(),
             3 => self.movement(),
             4 => {
                 self.origin();
+                if self.scribe.random.one_in(3) {
+                    self.stop();
+                }
                 self.pattern();
             }
             5..=6 => self.pattern(),
@@ -81,8 +84,9 @@ impl Programmer {
             9 => self.reading(),
             10 => self.call(),
             11 => self.origin(),
-            12..=14 => self.macro_body(),
-            15 => self.offset(),
+            12 => self.stop(),
+            13..=15 => self.macro_body(),
+            16 => self.offset(),
             _ => self.layout(),
         }
     }
@@ -163,10 +167,18 @@ impl Programmer {
         self.scribe.block(&mut [code]);
     }
 
+    /// An M code that makes no entry.
     fn mode(&mut self) {
-        let number = self.scribe.random.pick(&[0, 1, 8, 9, 12, 12, 12, 13, 13]);
+        let number = self.scribe.random.pick(&[8, 9, 12, 12, 12, 13, 13]);
         let code = self.scribe.code('M', number);
         self.scribe.block(&mut [code]);
+    }
+
+    /// M00 or M01, with any zeros in front.
+    fn stop(&mut self) {
+        let number = self.scribe.random.below(2);
+        let width = self.scribe.random.pick(&[1, 2, 2, 2, 3, 6]);
+        self.scribe.block(&mut [format!("M{number:0width$}")]);
     }
 
     fn pattern(&mut self) {

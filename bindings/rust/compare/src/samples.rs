@@ -7,6 +7,7 @@ use crate::limits;
 use crate::programs::Programmer;
 use crate::random::Random;
 use crate::shears;
+use crate::stops;
 
 /// A text, and the setting that it is written for.
 #[derive(Debug, PartialEq, Eq)]
@@ -34,7 +35,7 @@ fn text(random: &mut Random, seed: u64, setting: Setting) -> Vec<u8> {
     if random.one_in(1_000) {
         return limits::long_text(random, program());
     }
-    match random.below(106) {
+    match random.below(112) {
         0..=34 => program(),
         35..=59 => {
             let mut text = program();
@@ -53,6 +54,7 @@ fn text(random: &mut Random, seed: u64, setting: Setting) -> Vec<u8> {
         91..=92 => limits::range_ends(random, setting),
         93 => limits::wide_patterns(random, setting),
         94..=99 => limits::layout_states(random, setting),
+        100..=105 => stops::stops(random, setting),
         _ => {
             let mut text = shears::shears(random, setting);
             if random.one_in(6) {
@@ -106,6 +108,24 @@ mod tests {
             };
             let accepted = (0..1_000).filter(|&seed| is_accepted(seed)).count();
             assert!(accepted > 500, "{accepted} of 1,000 at {setting:?}");
+        }
+    }
+
+    #[test]
+    fn stops_are_met_in_accepted_texts() {
+        for setting in [Setting::Hundredths, Setting::Millimetres] {
+            let mut pair = Pair::new(16_384);
+            let mut stops_of = |text: &[u8]| {
+                let answer = pair.compare(setting.number(), text, 16_384);
+                let answer = answer.unwrap_or_else(|difference| panic!("{}", difference.describe()));
+                pair.stops(answer)
+            };
+            let in_programs = |seed| Programmer::new(seed, setting).write();
+            let met = (0..1_000).filter(|&seed| stops_of(&in_programs(seed)) > 0).count();
+            assert!(met > 200, "{met} of 1,000 programs at {setting:?}");
+            let full_of_stops = |seed| stops::stops(&mut Random::new(seed), setting);
+            let met = (0..1_000).filter(|&seed| stops_of(&full_of_stops(seed)) > 0).count();
+            assert!(met > 500, "{met} of 1,000 full of stops at {setting:?}");
         }
     }
 }

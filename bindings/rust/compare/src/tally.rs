@@ -16,23 +16,38 @@ struct Row {
     calls: u64,
 }
 
+/// A call of both expanders.
+#[derive(Clone, Copy)]
+pub struct Call<'a> {
+    pub sample: &'a Sample,
+    /// The number of the setting at which the text is expanded.
+    pub setting: i32,
+    pub answer: Answer,
+    /// How many of the entries are stops.
+    pub stops: usize,
+}
+
 /// The answers of a comparison.
 #[derive(Default)]
 pub struct Tally {
     answers: [Row; 19],
     /// Those accepted that have a G66.
     sheared: Row,
+    /// Those accepted with stops among their entries.
+    stopped: Row,
     /// Those by 6 that have a length or an angle past the limit of setting 0 in their line.
     past_limit: Row,
+    /// Those by 17 that come from a stop.
+    unplaced_stops: Row,
     all: Row,
 }
 
 impl Tally {
     /// Notes the answer to a text at setting 0 or 1; its call is not counted.
-    pub fn add_text(&mut self, sample: &Sample, setting: i32, answer: Answer) {
-        let settings = (sample.setting.number(), setting);
-        let is_in_body = is_in_body(&sample.text, answer.line);
-        for row in self.rows(sample, setting, answer) {
+    pub fn add_text(&mut self, call: Call) {
+        let settings = (call.sample.setting.number(), call.setting);
+        let is_in_body = is_in_body(&call.sample.text, call.answer.line);
+        for row in self.rows(call) {
             for (count, column) in row.texts.iter_mut().zip(COLUMNS) {
                 *count += u64::from(column == settings);
             }
@@ -40,29 +55,37 @@ impl Tally {
         }
     }
 
-    /// Notes a call of both expanders.
-    pub fn add_call(&mut self, sample: &Sample, setting: i32, answer: Answer) {
-        for row in self.rows(sample, setting, answer) {
+    /// Notes a call.
+    pub fn add_call(&mut self, call: Call) {
+        for row in self.rows(call) {
             row.calls += 1;
         }
     }
 
-    /// The rows that an answer counts in.
-    fn rows(&mut self, sample: &Sample, setting: i32, answer: Answer) -> impl Iterator<Item = &mut Row> {
-        let is_past_limit = (setting, answer.number) == (0, 6) && has_long_number(&sample.text, answer.line);
-        let past_limit = is_past_limit.then_some(&mut self.past_limit);
-        let is_sheared = answer.number == 0 && has_code(&without_spaces(&sample.text), b"66");
-        let sheared = is_sheared.then_some(&mut self.sheared);
-        let answer = &mut self.answers[usize::from(answer.number)];
-        [answer, &mut self.all].into_iter().chain(past_limit).chain(sheared)
+    /// The rows that a call counts in.
+    fn rows(&mut self, call: Call) -> impl Iterator<Item = &mut Row> {
+        let Answer { number, line, .. } = call.answer;
+        let text = &call.sample.text;
+        let is_sheared = number == 0 && has_code(&without_spaces(text), b"66");
+        let is_past_limit = (call.setting, number) == (0, 6) && has_long_number(text, line);
+        // 17 comes from hits and from stops, and no hit has an M
+        let is_unplaced_stop = number == 17 && line_of(text, line).contains(&b'M');
+        let further = [
+            is_sheared.then_some(&mut self.sheared),
+            (call.stops > 0).then_some(&mut self.stopped),
+            is_past_limit.then_some(&mut self.past_limit),
+            is_unplaced_stop.then_some(&mut self.unplaced_stops),
+        ];
+        let answer = &mut self.answers[usize::from(number)];
+        [answer, &mut self.all].into_iter().chain(further.into_iter().flatten())
     }
 
     pub fn print(&self) {
         println!("Texts by the setting that they are written for and the one at which they are expanded;");
         println!(
-            "G66: those accepted that have one; limit: those by 6 that have a length or an angle past the limit of"
+            "G66: those accepted that have one; stops: those accepted with stops in the list; limit: those by 6 that"
         );
-        println!("setting 0.");
+        println!("have a length or an angle past the limit of setting 0; stop: those by 17 that come from a stop.");
         let titles = COLUMNS.map(|(written, expanded)| format!("{written} at {expanded}"));
         print_cells("answer", titles, ["in bodies", "calls"]);
         for (number, row) in self.answers.iter().enumerate() {
@@ -71,8 +94,12 @@ impl Tally {
                 _ => row.print(&number.to_string()),
             }
             match number {
-                0 => self.sheared.print("G66"),
+                0 => {
+                    self.sheared.print("G66");
+                    self.stopped.print("stops");
+                }
                 6 => self.past_limit.print("limit"),
+                17 => self.unplaced_stops.print("stop"),
                 _ => {}
             }
         }
@@ -101,9 +128,7 @@ fn is_in_body(text: &[u8], line: u64) -> bool {
 
 /// Whether a line has X, Y, I, J, D, in G29 and G66 P, or in G66 Q with more than four digits, zeros in front not counted.
 fn has_long_number(text: &[u8], line: u64) -> bool {
-    let mut lines = text.split(|&byte| byte == b'\n');
-    let line = lines.nth(line.saturating_sub(1) as usize).unwrap_or_default();
-    let bytes = without_spaces(line);
+    let bytes = without_spaces(line_of(text, line));
     let letters: &[u8] = if has_code(&bytes, b"66") {
         b"XYIJDPQ"
     } else if has_code(&bytes, b"29") {
@@ -112,6 +137,12 @@ fn has_long_number(text: &[u8], line: u64) -> bool {
         b"XYIJD"
     };
     (0..bytes.len()).any(|place| letters.contains(&bytes[place]) && digits(&bytes, place).count() > 4)
+}
+
+/// A line of a text, by its number.
+fn line_of(text: &[u8], line: u64) -> &[u8] {
+    let mut lines = text.split(|&byte| byte == b'\n');
+    lines.nth(line.saturating_sub(1) as usize).unwrap_or_default()
 }
 
 /// Whether there is a G word with a code, in bytes without spaces.

@@ -18,7 +18,7 @@ const G50: &str = "G50\n";
 /// The most bytes of a text.
 const MOST_BYTES: usize = 60_000;
 
-/// The numbers of a list for 4,096 hits.
+/// The numbers of a list for 4,096 entries.
 const USUAL: usize = 16_384;
 
 /// The name and the bytes of a text, and the numbers of its list.
@@ -68,6 +68,8 @@ fn in_hundredths() -> Vec<Row> {
         ("G66 of 58,822 steps, refused at once", most_steps("100."), USUAL),
         ("G66 of 58,822 steps, refused on its way", most_steps("9999.99"), USUAL),
         ("4,096 copies of a part", copies(), USUAL),
+        ("1,024 copies of a part with stops", copies_with_stops(), USUAL),
+        ("M00 and M01 lines", stops(), USUAL),
         ("400 x 10,000 copies, empty part", empty_part("", 400), USUAL),
         ("  part of 40,000 spaces", empty_part(&spaces(40_000), 400), USUAL),
         ("  part of 3,000 line feeds", empty_part(&line_feeds(3_000), 400), USUAL),
@@ -216,6 +218,16 @@ fn most_steps(x: &str) -> String {
 
 fn copies() -> String {
     format!("{G92}G98 X5. Y5. I9. J9. P63 K63\nU1\nX1. Y1. T2\nV1\nG75 W1 Q4\n{G50}")
+}
+
+/// A part of two hits with a stop behind each, copied until the list is full.
+fn copies_with_stops() -> String {
+    format!("{G92}G98 X5. Y5. I9. J9. P31 K31\nU1\nX1. Y1. T2\nM00\nX2.\nM01\nV1\nG76 W1 Q2\n{G50}")
+}
+
+/// Stops until the list is full.
+fn stops() -> String {
+    format!("{G92}{}{G50}", "M00\nM01\n".repeat(USUAL / 8))
 }
 
 /// So many runs of a part without blocks.

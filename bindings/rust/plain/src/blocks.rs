@@ -43,7 +43,9 @@ pub enum Action {
     Copies { number: u8, along: Along, corner: Corner },
     /// M12, M13
     Mode(Mode),
-    /// M00, M01, M08, M09
+    /// M00, or M01 if it is optional.
+    Stop { is_optional: bool },
+    /// M08, M09
     Nothing,
     /// G50
     End,
@@ -237,7 +239,7 @@ fn action_of(kind: Kind, words: &Words) -> Result<Action, Refusal> {
     Ok(match kind {
         Kind::Position => Action::Punch(axes_of(words)),
         Kind::Lone => Action::Read,
-        Kind::M => mode_action(words.number(b'M').value),
+        Kind::M => m_action(words.number(b'M').value),
         Kind::B => Action::Memory(count(b'B', 1, 5)? as u8),
         Kind::W => Action::Call(macro_number(b'W')?),
         Kind::U => Action::Open(macro_number(b'U')?),
@@ -271,8 +273,11 @@ fn point_of(words: &Words) -> Point {
     }
 }
 
-fn mode_action(code: i32) -> Action {
+/// What an M code asks for.
+fn m_action(code: i32) -> Action {
     match code {
+        0 => Action::Stop { is_optional: false },
+        1 => Action::Stop { is_optional: true },
         12 => Action::Mode(Mode::Nibble),
         13 => Action::Mode(Mode::Punch),
         _ => Action::Nothing,
@@ -408,7 +413,7 @@ mod tests {
             0,
             "N5G92X600.Y600. X1 Y1T2 T2X1 G90X1 G91 N0G90 G70G91X1T2 G91G70Y1 G72X1 G90G93Y-1 G98X1Y1 \
              G98X1Y1I1J1P99K0D1 A1G28I1J1K1T9 G90A5G28I1J1K1 J1A2G26I1K-999 G29I1J1P-1.5K999 \
-             G36I0P0J0K0 G37I-1P999J1K999 N9B5 N9W89 G75W1Q4 G076Q1W89 M0 M013 G50 N9999G050 U1 V89 \
+             G36I0P0J0K0 G37I-1P999J1K999 N9B5 N9W89 G75W1Q4 G076Q1W89 M0 M01 M000001 N7M8 M09 M013 G50 N9999G050 U1 V89 \
              X-0Y+0 G98X-0Y0 G66I1J1P1 A1G66I1J1P1Q1D1T9 D-1.5G90Q-2.P-2.A5G066J-1I0.01 G91G66I-0J0P0Q-1 N9D+1J1P1I1G66",
         );
     }
@@ -419,7 +424,7 @@ mod tests {
             5,
             "N1 T2 G90T2 G70T2 X1N1 X1X2 N1U60 N1V60 U1N1 B1T2 B1X1 G28I1J1K1X1 G28I1J1 G28A1I1J1K1 \
              G28G90A1I1J1K1 A1X1 A1 G91G93X1 G90G92X1Y1 G92X1 G98X1 G90G98X1Y1 G90G90 G90G91X1 \
-             G28G29I1J1P1K1 G90G91G70X1 G+28I1J1K1 G28.I1J1K1 M2 M+0 M0. M0X1 G50X1 G75W1 G75W1Q1T1 \
+             G28G29I1J1P1K1 G90G91G70X1 G+28I1J1K1 G28.I1J1K1 M2 M+0 M0. M-1 M1. M10 M0X1 M0T2 M0M1 G90M0 G50X1 G75W1 G75W1Q1T1 \
              G72X1T1 G25 C1 U1V1 M0W1 G66 G66I1J1P1K1 G66I1J1Q1D1 G66I1P1Q1D1 G66J1P1Q1D1 G66A1I1J1P1 G66I1J1P1X1 \
              G66I1J1P1Q1Q1 G66I1J1P1W1 G66I1J1P1B1 G66G28I1J1P1K1 G90G91G66I1J1P1 G66.I1J1P1 G+66I1J1P1 I1J1P1Q1D1 \
              G28I1J1K1Q1 G28I1J1K1D1 G36I1J1P1K1Q1",

@@ -4,12 +4,13 @@
 //!
 //! ```
 //! let mut list = [-1; 16];
-//! let text = b"G92 X600. Y600.\nG90 X100. Y100. T2\nG28 I10. J45. K2\nG50\n";
-//! assert_eq!(plain::expand(1, text, &mut list), plain::Answer::Hits(3));
-//! assert_eq!(list, [10000, 10000, 2, 0, 10707, 10707, 2, 0, 11414, 11414, 2, 0, 0, 0, 0, 0]);
+//! let text = b"G92 X600. Y600.\nG90 X100. Y100. T2\nM00\nG28 I10. J45. K1\nG50\n";
+//! assert_eq!(plain::expand(1, text, &mut list), plain::Answer::Entries(3));
+//! assert_eq!(list, [10000, 10000, 2, 0, 0, 0, 0, 2, 10707, 10707, 2, 0, 0, 0, 0, 0]);
 //! ```
 
 mod blocks;
+mod entries;
 mod layouts;
 mod macros;
 mod order;
@@ -23,7 +24,8 @@ mod sine;
 mod text;
 mod words;
 
-use press::{HitList, Press};
+use entries::{EntryList, NUMBERS};
+use press::Press;
 use program::Expander;
 use refusal::Refused;
 use setting::Setting;
@@ -32,22 +34,23 @@ use text::Text;
 /// What a text comes to.
 #[derive(Clone, Copy, Debug, PartialEq, Eq)]
 pub enum Answer {
-    /// The program is accepted and makes this many hits.
-    Hits(usize),
+    /// The program is accepted and makes this many entries.
+    Entries(usize),
     /// The program is refused: the number of the refusal, 1 to 18, and its line, 0 for the text as a whole.
     Refused { number: u8, line: u64 },
 }
 
-/// Expands a text into the lent list, four numbers a hit: X, Y, tool, mode.
+/// Expands a text into the lent list, four numbers an entry: X, Y, tool, mode. The mode of a hit is 0 punching, 1
+/// nibbling; that of a stop is 2, or 3 if it is optional, and its other numbers are zero.
 ///
 /// The setting is the decimal point setting: at 0, lengths and angles without a point count whole millimetres and
-/// degrees; any other number counts as 1, and they count hundredths. The numbers after the hits, and after a refusal all
-/// numbers, are zero.
+/// degrees; any other number counts as 1, and they count hundredths. The numbers after the entries, and after a refusal
+/// all numbers, are zero.
 pub fn expand(setting: i32, text: &[u8], list: &mut [i32]) -> Answer {
-    match expand_hits(Setting::from_number(setting), text, list) {
-        Ok(hits) => {
-            list[4 * hits..].fill(0);
-            Answer::Hits(hits)
+    match expand_entries(Setting::from_number(setting), text, list) {
+        Ok(count) => {
+            list[NUMBERS * count..].fill(0);
+            Answer::Entries(count)
         }
         Err(refused) => {
             list.fill(0);
@@ -59,8 +62,8 @@ pub fn expand(setting: i32, text: &[u8], list: &mut [i32]) -> Answer {
     }
 }
 
-/// Writes the hits of a text to the start of the list and counts them.
-fn expand_hits(setting: Setting, text: &[u8], list: &mut [i32]) -> Result<usize, Refused> {
+/// Writes the entries of a text to the start of the list and counts them.
+fn expand_entries(setting: Setting, text: &[u8], list: &mut [i32]) -> Result<usize, Refused> {
     let text = Text::read(text)?;
-    Expander::new(setting, &text, Press::new(HitList::new(list))).run()
+    Expander::new(setting, &text, Press::new(EntryList::new(list))).run()
 }

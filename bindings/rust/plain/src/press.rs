@@ -1,8 +1,9 @@
-//! The press: its state, its range, and the hits that it makes.
+//! The press: its state, its range, and the entries that it makes.
 
 use std::num::NonZeroU8;
 
 use crate::blocks::Axes;
+use crate::entries::{Entry, EntryList};
 use crate::patterns::Pattern;
 use crate::refusal::Refusal;
 
@@ -95,27 +96,6 @@ impl Range {
     }
 }
 
-/// The lent list and the hits in it.
-pub struct HitList<'l> {
-    numbers: &'l mut [i32],
-    count: usize,
-}
-
-impl<'l> HitList<'l> {
-    pub fn new(numbers: &'l mut [i32]) -> HitList<'l> {
-        HitList { numbers, count: 0 }
-    }
-
-    /// Adds a hit; refusal 17.
-    fn add(&mut self, hit: [i32; 4]) -> Result<(), Refusal> {
-        let start = 4 * self.count;
-        let place = self.numbers.get_mut(start..start + 4);
-        place.ok_or(Refusal::ListFull)?.copy_from_slice(&hit);
-        self.count += 1;
-        Ok(())
-    }
-}
-
 /// What one block leaves to the next, and each copy of a part begins with.
 #[derive(Clone, Copy)]
 pub struct State {
@@ -142,12 +122,12 @@ impl State {
 pub struct Press<'l> {
     pub state: State,
     range: Range,
-    list: HitList<'l>,
+    list: EntryList<'l>,
 }
 
 impl<'l> Press<'l> {
     /// A press as it is before G92.
-    pub fn new(list: HitList<'l>) -> Press<'l> {
+    pub fn new(list: EntryList<'l>) -> Press<'l> {
         Press {
             state: State {
                 at: Point::ZERO,
@@ -163,9 +143,9 @@ impl<'l> Press<'l> {
         }
     }
 
-    /// The hits made so far.
-    pub fn hits(&self) -> usize {
-        self.list.count
+    /// How many entries are made so far.
+    pub fn entries(&self) -> usize {
+        self.list.count()
     }
 
     /// G92: names the machine and makes its corner the current point.
@@ -235,7 +215,12 @@ impl<'l> Press<'l> {
     pub fn hit(&mut self, place: Point) -> Result<(), Refusal> {
         let tool = self.state.tool.ok_or(Refusal::NoTool)?;
         self.range.judge(place)?;
-        let mode = self.state.mode as i32;
-        self.list.add([place.x, place.y, i32::from(tool.get()), mode])
+        let mode = self.state.mode;
+        self.list.add(Entry::Hit { place, tool, mode })
+    }
+
+    /// M00, M01: makes a stop, which changes nothing of the state; refusal 17.
+    pub fn stop(&mut self, is_optional: bool) -> Result<(), Refusal> {
+        self.list.add(Entry::Stop { is_optional })
     }
 }

@@ -52,10 +52,10 @@ impl<'t, 'l> Expander<'t, 'l> {
         }
     }
 
-    /// Carries out the whole text and counts its hits.
+    /// Carries out the whole text and counts its entries.
     pub fn run(&mut self) -> Result<usize, Refused> {
         match self.run_lines() {
-            Ok(()) => Ok(self.press.hits()),
+            Ok(()) => Ok(self.press.entries()),
             Err(refusal) => Err(refusal.at(self.line)),
         }
     }
@@ -175,6 +175,7 @@ impl<'t, 'l> Expander<'t, 'l> {
                 press.state.mode = mode;
                 Ok(())
             }
+            Action::Stop { is_optional } => press.stop(is_optional),
             Action::Nothing => Ok(()),
             _ => Err(Refusal::WrongPlace),
         }

@@ -2,17 +2,17 @@
 
 use plain::{expand, Answer};
 
-/// The answer to a text at a setting, and the hits as X, Y, tool and mode.
+/// The answer to a text at a setting, and the entries as X, Y, tool and mode.
 fn expand_at(setting: i32, text: &str) -> (Answer, Vec<[i32; 4]>) {
     let mut list = vec![-1; 16_384];
     let answer = expand(setting, text.as_bytes(), &mut list);
     let count = match answer {
-        Answer::Hits(count) => count,
+        Answer::Entries(count) => count,
         Answer::Refused { .. } => 0,
     };
     assert!(list[4 * count..].iter().all(|&number| number == 0));
-    let hits = list.chunks_exact(4).take(count);
-    (answer, hits.map(|hit| hit.try_into().unwrap()).collect())
+    let entries = list.chunks_exact(4).take(count);
+    (answer, entries.map(|entry| entry.try_into().unwrap()).collect())
 }
 
 /// The same at setting 1.
@@ -22,15 +22,16 @@ fn expand_text(text: &str) -> (Answer, Vec<[i32; 4]>) {
 
 /// The places of the hits between G92 of the ARIES-222 and G50.
 fn places(blocks: &str) -> Vec<(i32, i32)> {
-    let (answer, hits) = expand_text(&program(blocks));
-    assert_eq!(answer, Answer::Hits(hits.len()));
-    hits.iter().map(|hit| (hit[0], hit[1])).collect()
+    let (answer, entries) = expand_text(&program(blocks));
+    assert_eq!(answer, Answer::Entries(entries.len()));
+    let hits = entries.iter().filter(|entry| entry[3] < 2);
+    hits.map(|hit| (hit[0], hit[1])).collect()
 }
 
 fn refusal(blocks: &str) -> (u8, u64) {
     match expand_text(&program(blocks)).0 {
         Answer::Refused { number, line } => (number, line),
-        Answer::Hits(count) => panic!("{count} hits"),
+        Answer::Entries(count) => panic!("{count} entries"),
     }
 }
 
@@ -122,7 +123,7 @@ fn texts_may_have_60000_bytes() {
         let padding = " ".repeat(length - text.len());
         expand_text(&(text + &padding)).0
     };
-    assert_eq!(padded(60_000), Answer::Hits(0));
+    assert_eq!(padded(60_000), Answer::Entries(0));
     assert_eq!(padded(60_001), Answer::Refused { number: 1, line: 0 });
 }
 
@@ -139,7 +140,7 @@ fn blocks_may_be_100000() {
 fn a_list_may_be_exactly_full() {
     let text = program("X1. T2\nX2.");
     let expand_into = |list: &mut [i32]| expand(1, text.as_bytes(), list);
-    assert_eq!(expand_into(&mut [-1; 8]), Answer::Hits(2));
+    assert_eq!(expand_into(&mut [-1; 8]), Answer::Entries(2));
     let mut list = [-1; 7];
     assert_eq!(expand_into(&mut list), Answer::Refused { number: 17, line: 3 });
     assert_eq!(list, [0; 7]);

@@ -6,7 +6,7 @@ use plain::{expand, Answer};
 fn hits(setting: i32, text: &str) -> Result<Vec<[i32; 4]>, (u8, u64)> {
     let mut list = vec![-1; 16_384];
     match expand(setting, text.as_bytes(), &mut list) {
-        Answer::Hits(count) => {
+        Answer::Entries(count) => {
             let hits = list.chunks_exact(4).take(count);
             Ok(hits.map(|hit| hit.try_into().unwrap()).collect())
         }

@@ -2,12 +2,12 @@
 
 use plain::{expand, Answer};
 
-/// The hits of blocks after G92 of the ARIES-222, at a setting and with places for so many hits, as X, Y and tool, or their
-/// refusal.
+/// The hits of blocks after G92 of the ARIES-222, at a setting and with places for so many entries, as X, Y and
+/// tool, or their refusal.
 fn hits(setting: i32, places: usize, blocks: &str) -> Result<Vec<[i32; 3]>, (u8, u64)> {
     let mut list = vec![-1; 4 * places];
     match expand(setting, format!("G92X600.Y600.\n{blocks}\nG50\n").as_bytes(), &mut list) {
-        Answer::Hits(count) => {
+        Answer::Entries(count) => {
             let hits = list.chunks_exact(4).take(count);
             Ok(hits.map(|hit| [hit[0], hit[1], hit[2]]).collect())
         }

@@ -106,7 +106,7 @@ fn print_times(workload: &Workload, answer: Answer, times: &[f64]) {
 
 fn print_row(text: &str, cells: &[String]) {
     print!("{text:<39}");
-    for (cell, width) in cells.iter().zip([6, 10, 10, 10, 6, 10, 9]) {
+    for (cell, width) in cells.iter().zip([6, 12, 10, 10, 6, 10, 9]) {
         print!(" | {cell:>width$}");
     }
     println!();
@@ -114,7 +114,7 @@ fn print_row(text: &str, cells: &[String]) {
 
 fn describe(answer: Answer) -> String {
     match answer.number {
-        0 => format!("{} hits", answer.count),
+        0 => format!("{} entries", answer.count),
         number => format!("refused {number}"),
     }
 }

@@ -10,9 +10,9 @@ use compare::arguments::seeds;
 use compare::pair::{Answer, Difference, Pair};
 use compare::random::Random;
 use compare::samples::{sample, Sample};
-use compare::tally::Tally;
+use compare::tally::{Call, Tally};
 
-/// The numbers of the usual list, with places for 4,096 hits.
+/// The numbers of the usual list, with places for 4,096 entries.
 const USUAL_LENGTH: usize = 16_384;
 
 /// The numbers of a list for texts that fill the usual one.
@@ -53,31 +53,41 @@ fn try_text(pair: &mut Pair, tally: &mut Tally, seed: u64) -> Result<(), Differe
     let mut random = Random::new(!seed ^ 0x5e77);
     if random.one_in(4) {
         let number = random.pick(&OTHER_NUMBERS);
-        let answer = pair.compare(number, &sample.text, USUAL_LENGTH)?;
-        tally.add_call(&sample, number, answer);
+        tally.add_call(call(pair, &sample, number, USUAL_LENGTH)?);
     }
     Ok(())
 }
 
 /// Compares the answers for one text at a setting and several lengths of the list.
 fn try_lists(pair: &mut Pair, tally: &mut Tally, seed: u64, sample: &Sample, setting: i32) -> Result<(), Difference> {
-    let answer = pair.compare(setting, &sample.text, USUAL_LENGTH)?;
-    tally.add_text(sample, setting, answer);
-    tally.add_call(sample, setting, answer);
-    for length in other_lengths(seed, answer) {
-        let answer = pair.compare(setting, &sample.text, length)?;
-        tally.add_call(sample, setting, answer);
+    let usual = call(pair, sample, setting, USUAL_LENGTH)?;
+    tally.add_text(usual);
+    tally.add_call(usual);
+    for length in other_lengths(seed, usual.answer) {
+        tally.add_call(call(pair, sample, setting, length)?);
     }
     Ok(())
 }
 
-/// Further lengths of the list: short ones, and those near the length that the hits need.
+/// Calls both expanders.
+fn call<'a>(pair: &mut Pair, sample: &'a Sample, setting: i32, length: usize) -> Result<Call<'a>, Difference> {
+    let answer = pair.compare(setting, &sample.text, length)?;
+    Ok(Call {
+        sample,
+        setting,
+        answer,
+        stops: pair.stops(answer),
+    })
+}
+
+/// Further lengths of the list: short ones, those near the length that the entries need, and one at which some entry
+/// finds no place.
 fn other_lengths(seed: u64, answer: Answer) -> Vec<usize> {
     let mut random = Random::new(!seed);
     match answer.number {
         0 => {
             let needed = 4 * answer.count;
-            let mut lengths = vec![0, 3, 7, needed, needed + 3];
+            let mut lengths = vec![0, 3, 7, needed, needed + 3, random.below(needed + 1)];
             lengths.extend(needed.checked_sub(1));
             lengths
         }

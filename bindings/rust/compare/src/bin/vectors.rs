@@ -10,6 +10,7 @@ use std::process::ExitCode;
 use std::{env, fs};
 
 use compare::pair::{library, plain, Answer};
+use tolkjirp::NUMBERS_PER_ENTRY;
 
 /// The golden cases of the repository.
 const CASES: &str = concat!(env!("CARGO_MANIFEST_DIR"), "/../../../crates/cases");
@@ -81,7 +82,7 @@ fn case<'a>(title: &str, lines: &mut impl Iterator<Item = &'a str>) -> Option<Ca
         return None;
     };
     let head = lines.next()?;
-    let count = match head.strip_prefix("HITS ") {
+    let count = match head.strip_prefix("ENTRIES ") {
         Some(count) => count.parse().ok()?,
         None => 0,
     };
@@ -101,20 +102,29 @@ fn is_right(case: &Case, text: &[u8]) -> bool {
     [library, plain].iter().all(|expand| {
         let mut list = vec![-1; case.length];
         let answer = expand(case.setting, text, &mut list);
-        hit_list(answer, &list) == case.listing
+        listing(answer, &list) == case.listing
     })
 }
 
 /// The lines that `hitlist` prints.
-fn hit_list(answer: Answer, list: &[i32]) -> String {
+fn listing(answer: Answer, list: &[i32]) -> String {
     if answer.number != 0 {
         return format!("REFUSED {} LINE {}\n", answer.number, answer.line);
     }
-    let mut lines = format!("HITS {}\n", answer.count);
-    for (index, hit) in list.chunks_exact(4).take(answer.count).enumerate() {
-        let mode = if hit[3] == 0 { 'P' } else { 'N' };
-        let index = index + 1;
-        writeln!(lines, "{index} {} {} {} {mode}", hit[0], hit[1], hit[2]).expect("a string takes all");
+    let mut lines = format!("ENTRIES {}\n", answer.count);
+    for (index, entry) in list.chunks_exact(NUMBERS_PER_ENTRY).take(answer.count).enumerate() {
+        let (index, mode) = (index + 1, mode_letter(entry[3]));
+        writeln!(lines, "{index} {} {} {} {mode}", entry[0], entry[1], entry[2]).expect("a string takes all");
     }
     lines
+}
+
+/// Punching, nibbling, a stop or an optional stop.
+fn mode_letter(mode: i32) -> char {
+    match mode {
+        0 => 'P',
+        1 => 'N',
+        2 => 'S',
+        _ => 'O',
+    }
 }
