@@ -1,6 +1,8 @@
 -- The plates of document 01, by computation.
 pub mod Plates
 -- Laws of the definitions.
+pub mod Words
+pub mod Ranges
 pub mod Points
 pub mod Counts
 pub mod Outcomes
@@ -22,9 +24,11 @@ pub mod BothOrNeither
 pub mod Kept
 pub mod CopyBlocks
 pub mod CopyPairs
--- What is proved of refusals.
+-- What is proved of refusals and, in the same pass, of tools; and so of the tally.
+pub mod ToolWords
 pub mod Sound
 pub mod Refusals
+pub mod Tools
 -- What is proved of settings.
 pub mod Settings
 -- What is proved of G66.
@@ -36,5 +40,9 @@ pub mod Judging
 pub mod Calls
 pub mod Named
 pub mod Runs
+pub mod Tally
+pub mod Tallied
+pub mod OneTool
 pub mod Storage
+pub mod Tags
 pub mod WidePoints

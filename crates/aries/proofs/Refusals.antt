@@ -1,5 +1,6 @@
 -- Demand 1, of refusals: past 1 each has a number from 2 to 18 and the line of a block that is carried out (`Sound`). Of the
--- blocks of bodies too that is a line of the text: wherever a program comes, all that is stored lies within its lines.
+-- blocks of bodies too that is a line of the text: wherever a program comes, all that is stored lies within its lines. And the
+-- tool that it has chosen is at most 99, so that all hits of a text that is not refused have tools, from which `Tools` goes on.
 use mathlib.Core.Path.{_≡_, refl, sym, ap, _∙_, subst}
 use mathlib.Core.Bool.{Bool, true, false, true≢false, cond, _&&_}
 use mathlib.Core.List.{List, [], _∷_}
@@ -8,6 +9,7 @@ use Prim.Native.Nat.{ℕ, suc, _+_, _-_, _≤_, _<_}
 use native.Mathlib.Nat.{add-assoc}
 use native.Mathlib.Omega.{arith}
 use lib.Dec.{leb, ltb, eqb}
+use lib.IntN.{ℤ}
 use lib.ListN.{length, drop, length-set}
 use lib.Seq.{drop-drop, getD-set-same, getD-set-other}
 use borrow.Author.Tests.{ltb-true, ltb-false, eqb-true, eqb-false, leb-true}
@@ -44,7 +46,8 @@ use Rattle.aries.specs.Program.{withProgress, withStore, atStage, freshP
 use Rattle.aries.specs.Refusals.{RefusalOf, RefusalsNamed}
 use Rattle.aries.proofs.LineCounts.{lines-some, lines-take, lines-dense, lines-next, stray-inside}
 use Rattle.aries.proofs.Storage.{found-fresh, storing-out}
-use Rattle.aries.proofs.Sound.{LineOf, Answered, Any, Each, Proper, Sound, BodyOf, BodiesOf, sound-refused, sound-done, sound-bind, sound-need, sound-given, sound-then, sound-map, begin-proper, carry-sound, call-sound, runBody-sound, copyPart-sound}
+use Rattle.aries.proofs.ToolWords.{BlockFits}
+use Rattle.aries.proofs.Sound.{LineOf, HitsNamed, Any, Each, Proper, Sound, ToolFits, SoundFrom, BodyOf, BodiesOf, sound-refused, sound-done, sound-bind, sound-need, sound-given, sound-then, sound-map, begin-proper, carry-sound, call-sound, runBody-sound, copyPart-sound}
 
 -- ---- What is stored
 
@@ -91,13 +94,13 @@ module _ (last : ℕ) (text : List ℕ) where
   -- ---- U lines
 
   firstRun-sound :
-      (j : Judging) (m : Macros) (n : ℕ) (b : Body) (s : Setup) (g : Progress) → StoreOf last text m → BodyOf last b → Sound last Any (firstRun j text m n b s g)
+      (j : Judging) (m : Macros) (n : ℕ) (b : Body) (s : Setup) → StoreOf last text m → BodyOf last b → SoundFrom last (firstRun j text m n b s)
   unfolding firstRun
-  firstRun-sound j m n b s g st k = go (runsFirst n (s .sheet))
+  firstRun-sound j m n b s st k g fits = go (runsFirst n (s .sheet))
     where
-      go : (t : Bool) → Sound {A = Progress} last Any (elim t [ true ↦ runBody j (bodiesOf text m) (mostCalls - 1) (ordinaryFrame s) b g | false ↦ noEntry g ])
-      go true = runBody-sound j (bodiesOf text m) (st .stored) (mostCalls - 1) (ordinaryFrame s) b g k
-      go false = sound-done tt
+      go : (t : Bool) → Sound {A = Progress} last ToolFits (elim t [ true ↦ runBody j (bodiesOf text m) (mostCalls - 1) (ordinaryFrame s) b g | false ↦ noEntry g ])
+      go true = runBody-sound j (bodiesOf text m) (st .stored) (mostCalls - 1) (ordinaryFrame s) b k g fits
+      go false = sound-done fits
 
   module _ (j : Judging) (line : ℕ) (h : LineOf last line) where
     -- the body lies within the lines that follow
@@ -107,17 +110,17 @@ module _ (last : ℕ) (text : List ℕ) where
         record { from = omega arith; to = omega (arith, lines-take (start + size - start) (drop start text)) }
 
     openBody-sound :
-        (n start : ℕ) (ls : List (List ℕ)) (s : Setup) (st : Store) → StoreOf last text (st .macros)
+        (n start : ℕ) (ls : List (List ℕ)) (s : Setup) (st : Store) → StoreOf last text (st .macros) → ToolFits (st .progress)
         → line + suc (length (lines (drop start text))) ≤ suc last
-        → Sound last (λ (r : Store). StoreOf last text (r .macros)) (openBody j text n start line ls s st)
+        → Sound last (λ (r : Store). StoreOf last text (r .macros) × ToolFits (r .progress)) (openBody j text n start line ls s st)
     unfolding openBody
-    openBody-sound n start ls s st k a =
+    openBody-sound n start ls s st k fits a =
         sound-given Any (bodySize (readerOf (ordinaryFrame s)) n ls) 9 refl h (any (bodySize (readerOf (ordinaryFrame s)) n ls)) λ size _.
         let b = bodyFrom-of start size a in
         sound-need (leb (characters (storedAt (st .macros) n start size line)) mostCharacters) 12 refl h
         (sound-map (withStored (storedAt (st .macros) n start size line)) _
-        (firstRun-sound j (st .macros) n (bodyFrom text start size line) s (st .progress) k b)
-        (λ g _. storing-of (st .macros) n start (start + size) (suc line) k b))
+        (firstRun-sound j (st .macros) n (bodyFrom text start size line) s k b (st .progress) fits)
+        (λ g fits′. (storing-of (st .macros) n start (start + size) (suc line) k b, fits′)))
       where
         any : (o : Option ℕ) → Each Any o
         any none = tt
@@ -125,9 +128,9 @@ module _ (last : ℕ) (text : List ℕ) where
 
   -- ---- Blocks outside bodies
 
-  -- what every program has stored
+  -- what every program has stored, and the tool that it has chosen
   abbrev Held : Program → Type 0
-  Held p = StoreOf last text (p .macros)
+  Held p = StoreOf last text (p .macros) × ToolFits (p .progress)
 
   settled-sound :
       (j : Judging) (line : ℕ) → LineOf last line → (sheet : Sheet) (offset : Point) (s : Setup) (p : Program) → Held p
@@ -162,31 +165,32 @@ module _ (last : ℕ) (text : List ℕ) where
     carryOutside-sound (Outside.Layout l) p k = settled-sound j line h (LaidOut l) (p .setup .offset) (p .setup) p k
     carryOutside-sound (Outside.Open n) p k =
         sound-map (withStore p) _
-        (openBody-sound j line h n next ls (p .setup) (withStored (p .macros) (p .progress)) k (rw rest room))
+        (openBody-sound j line h n next ls (p .setup) (withStored (p .macros) (p .progress)) (k .0) (k .1) (rw rest room))
         (λ st k′. k′)
     carryOutside-sound (Outside.Close n) p k = sound-refused refl h
     carryOutside-sound (Outside.Copy c) p k =
-        sound-map (withProgress p) _ (copyPart-sound j (bodiesOf text (p .macros)) (k .stored) line h (p .setup) c (p .progress)) (λ g _. k)
+        sound-map (withProgress p) _ (copyPart-sound j (bodiesOf text (p .macros)) (k .0 .stored) line h (p .setup) c (p .progress) (k .1)) (λ g fits. (k .0, fits))
 
     -- as in a body
     inBody-sound :
-        (b : Block) (p : Program) → Held p
-        → Sound last Any (carry j (call j (bodiesOf text (p .macros)) mostCalls) (ordinaryFrame (p .setup)) line b (p .progress))
-    inBody-sound b p k = carry-sound j _ (call-sound j (bodiesOf text (p .macros)) (k .stored) mostCalls) (ordinaryFrame (p .setup)) line h b (p .progress)
+        (b : Block) → BlockFits b → (p : Program) → Held p
+        → Sound last ToolFits (carry j (call j (bodiesOf text (p .macros)) mostCalls) (ordinaryFrame (p .setup)) line b (p .progress))
+    inBody-sound b own p k =
+        carry-sound j _ (call-sound j (bodiesOf text (p .macros)) (k .0 .stored) mostCalls) (ordinaryFrame (p .setup)) line h b own (p .progress) (k .1)
 
-    carryOut-sound : (b : Block) (p : Program) → Held p → Sound last Held (carryOut j text next line ls b p)
+    carryOut-sound : (b : Block) → BlockFits b → (p : Program) → Held p → Sound last Held (carryOut j text next line ls b p)
     unfolding carryOut
-    carryOut-sound (Block.Direct d) p k = sound-map (withProgress p) _ (inBody-sound (Block.Direct d) p k) (λ g _. k)
-    carryOut-sound (Block.Call n) p k = sound-map (withProgress p) _ (inBody-sound (Block.Call n) p k) (λ g _. k)
-    carryOut-sound (Block.Outside b) p k = carryOutside-sound b p k
+    carryOut-sound (Block.Direct d) own p k = sound-map (withProgress p) _ (inBody-sound (Block.Direct d) own p k) (λ g fits. (k .0, fits))
+    carryOut-sound (Block.Call n) own p k = sound-map (withProgress p) _ (inBody-sound (Block.Call n) own p k) (λ g fits. (k .0, fits))
+    carryOut-sound (Block.Outside b) own p k = carryOutside-sound b p k
 
     -- ---- Lines
 
     runBlockOutside-sound : (l : List ℕ) (p : Program) → Held p → Sound last Held (runBlockOutside j text next line l ls p)
     unfolding runBlockOutside
     runBlockOutside-sound l p k =
-        sound-bind (begin j (ordinaryFrame (p .setup)) line l (p .progress)) _ (begin-proper j (ordinaryFrame (p .setup)) line h l (p .progress)) λ b _.
-        sound-need (inPlace (p .stage) (b .block)) 7 refl h (carryOut-sound (b .block) (withProgress p (b .progress)) k)
+        sound-bind (begin j (ordinaryFrame (p .setup)) line l (p .progress)) _ (begin-proper j (ordinaryFrame (p .setup)) line h l (p .progress) (k .1)) λ b fits.
+        sound-need (inPlace (p .stage) (b .block)) 7 refl h (carryOut-sound (b .block) (fits .0) (withProgress p (b .progress)) (k .0, fits .1))
 
     runLineOutside-sound : (l : List ℕ) (p : Program) → Held p → Sound last Held (runLineOutside j text next line l ls p)
     runLineOutside-sound [] p k = sound-done k
@@ -228,56 +232,65 @@ within-bounds a b x e = go (leb a x) (leb x b) refl refl e
 
 -- what is carried out; it ends in a line of the text
 perform-proper :
-    (last : ℕ) (job : Job) (text : List ℕ) (end : ℕ) → LineOf last end → length (lines text) ≤ last → Proper last Any (perform job text end)
+    (last : ℕ) (job : Job) (text : List ℕ) (end : ℕ) → LineOf last end → length (lines text) ≤ last → Proper last HitsNamed (perform job text end)
 unfolding perform
 perform-proper last job text end h b =
     go (runFrom (limits job) text 0 1 (lines text) (freshProgram job))
-    (runFrom-sound last text (limits job) 0 1 (lines text) (freshProgram job) refl (omega arith) (omega arith) (nothing-stored last text))
+    (runFrom-sound last text (limits job) 0 1 (lines text) (freshProgram job) refl (omega arith) (omega arith) (nothing-stored last text, omega arith))
   where
-    ended : (t : Bool) (entries : List Entry) → Proper last Any (_>>=_ (need t 7 end) (λ _. done entries))
-    ended true entries = record { answered = tt }
-    ended false entries = record { answered = (refl, h) }
+    ended : (t : Bool) (entries : List Entry) → HitsNamed entries → Proper last HitsNamed (_>>=_ (need t 7 end) (λ _. done entries))
+    ended true entries n = record { answered = n }
+    ended false entries n = record { answered = (refl, h) }
 
     go :
         (x : Out (Made Program)) → Sound last (Held last text) x
-        → Proper last Any (_>>=_ x (λ m. _>>=_ (need (isEnded (m .after .stage)) 7 end) (λ _. done (m .entries))))
-    go (done m) k = ended (isEnded (m .after .stage)) (m .entries)
+        → Proper last HitsNamed (_>>=_ x (λ m. _>>=_ (need (isEnded (m .after .stage)) 7 end) (λ _. done (m .entries))))
+    go (done m) k = ended (isEnded (m .after .stage)) (m .entries) (k .answered .1)
     go (refused number line) k = record { answered = k .answered }
 
-module _ (text : List ℕ) (x : Out (List Entry)) where
+-- what is known of the answer to a text
+abbrev pub TextAnswered : List ℕ → Out (List Entry) → Type 0
+TextAnswered text (done entries) = HitsNamed entries
+TextAnswered text (refused number line) = RefusalOf text number line
+
+module _ (text : List ℕ) where
   -- 2, and what comes after it
-  noStray-proper : Proper (length (lines text)) Any x → Proper (length (lines text)) Any (_>>=_ (noStray (strayLine 1 text)) (λ _. x))
-  noStray-proper k = go (strayLine 1 text) refl
+  noStray-proper :
+      (x : Out (List Entry)) → Proper (length (lines text)) HitsNamed x
+      → Proper (length (lines text)) HitsNamed (_>>=_ (noStray (strayLine 1 text)) (λ _. x))
+  noStray-proper x k = go (strayLine 1 text) refl
     where
-      go : (o : Option ℕ) → strayLine 1 text ≡ o → Proper (length (lines text)) Any (_>>=_ (noStray o) (λ _. x))
+      go : (o : Option ℕ) → strayLine 1 text ≡ o → Proper (length (lines text)) HitsNamed (_>>=_ (noStray o) (λ _. x))
       go none e = k
       go (some line) e =
           let i = stray-inside text 1 line e in
           record { answered = (refl, record { from = i .0; to = omega arith }) }
 
-  -- 1, and what comes after it
-  refusal-of :
-      (t : Bool) (number line : ℕ) → (t ≡ true → Proper (length (lines text)) Any x) → _>>=_ (need t 1 0) (λ _. x) ≡ refused number line
-      → RefusalOf text number line
-  refusal-of false number line k e =
-      let number-is : number ≡ 1 = cc in
-      let line-is : line ≡ 0 = cc in
-      record { numbered = (omega arith, omega arith); lineless = (λ _. number-is, λ _. line-is); lined = λ other. absurd (other number-is) }
-  refusal-of true number line k e =
-      let a = subst (Answered (length (lines text)) Any) e (k refl .answered) in
-      let n = within-bounds 2 18 number (a .0) in
-      let l = a .1 in
+  -- past 1
+  proper-answered : (x : Out (List Entry)) → Proper (length (lines text)) HitsNamed x → TextAnswered text x
+  proper-answered (done entries) k = k .answered
+  proper-answered (refused number line) k =
+      let n = within-bounds 2 18 number (k .answered .0) in
+      let l = k .answered .1 in
       record {
         numbered = (omega arith, n .1);
         lineless = (λ z. absurd (omega arith), λ z. absurd (omega arith));
         lined = λ _. (l .from, l .to);
       }
 
-pub refusals-named : RefusalsNamed
+  -- 1, and what comes after it
+  size-answered :
+      (t : Bool) (x : Out (List Entry)) → (t ≡ true → Proper (length (lines text)) HitsNamed x) → TextAnswered text (_>>=_ (need t 1 0) (λ _. x))
+  size-answered true x k = proper-answered x (k refl)
+  size-answered false x k = record { numbered = (omega arith, omega arith); lineless = (λ _. refl, λ _. refl); lined = λ other. absurd (other refl) }
+
+-- so every text is answered
+pub text-answered : (setting : ℤ) (text : List ℕ) (numbers : ℕ) → TextAnswered text (expand setting text numbers)
 unfolding expand
-refusals-named setting text numbers number line e =
-    refusal-of text _ (within 1 longest (length text)) number line
-    (λ w.
+text-answered setting text numbers =
+    size-answered text (within 1 longest (length text)) _ λ w.
     let some = lines-some text (within-bounds 1 longest (length text) w .0) in
-    noStray-proper text _ (perform-proper (length (lines text)) (lending (settingOf setting) numbers) (withoutSpaces text) _ (record { from = some; to = omega arith }) (lines-dense text)))
-    e
+    noStray-proper text _ (perform-proper (length (lines text)) (lending (settingOf setting) numbers) (withoutSpaces text) _ (record { from = some; to = omega arith }) (lines-dense text))
+
+pub refusals-named : RefusalsNamed
+refusals-named setting text numbers number line e = subst (TextAnswered text) e (text-answered setting text numbers)

@@ -1,8 +1,8 @@
 -- Laws of `Ran`: how what a function did is put together from what its callees did.
 use mathlib.Core.Path.{_≡_, refl, sym, ap, subst, _∙_}
-use mathlib.Core.Bool.{Bool, true, false, cond}
+use mathlib.Core.Bool.{Bool, true, false, cond, _&&_}
 use mathlib.Core.List.{List, [], _∷_, _++_}
-use Prim.Native.Nat.{ℕ, zero, suc, _+_, _*_, _/_, _≤_, _<_}
+use Prim.Native.Nat.{ℕ, zero, suc, _+_, _-_, _*_, _/_, _≤_, _<_}
 use native.Mathlib.Omega.{arith}
 use borrow.Author.Tests.{lt-ltb}
 use lib.Dec.{ltb}
@@ -14,7 +14,11 @@ use Rattle.aries.specs.declared.state.Status.the-variants.{Passed, Refus
 use Rattle.aries.specs.Outcome.{Out, done, refused}
 use Rattle.aries.specs.declared.entry.Entry.{Entry}
 use Rattle.aries.specs.Entries.{Made, noEntry, adding, andThen, mapAfter}
-use Rattle.aries.specs.Runs.{statusOf, Lent, lent, write, put, over, Ran}
+use Rattle.aries.specs.declared.entry.Entry.the-variants as Entry
+use Rattle.aries.specs.Test.{within}
+use Rattle.aries.specs.Numbers.{lastTool}
+use Rattle.aries.specs.Runs.{statusOf, Lent, lentBoth, lent, write, listPut, put, over, Ran}
+use Rattle.aries.specs.Tallying.{hitsNoted, tallyPut}
 use Rattle.aries.proofs.Outcomes.{done-injective, refused≢done}
 
 -- ---- What is lent
@@ -32,8 +36,21 @@ length-over l k [] = refl
 length-over l k (e ∷ es) = length-over (put l k e) (k + 1) es ∙ length-put l k e
 
 -- an entry at a place that the list has
-pub put-inside : (l : Lent) (k : ℕ) (e : Entry) → k < length (l .list) / 4 → put l k e ≡ lent (write (l .list) k e)
+pub put-inside : (l : Lent) (k : ℕ) (e : Entry) → k < length (l .list) / 4 → put l k e .list ≡ write (l .list) k e
 put-inside l k e i = rw (lt-ltb k (length (l .list) / 4) i)
+
+-- a tally that is not lent stays without numbers
+none-put : (k : ℕ) (e : Entry) → tallyPut [] k e ≡ []
+none-put k (Entry.Stop optional) = refl
+none-put k (Entry.Hit h) = go (within 1 lastTool (h .tool) && ltb k (k + 1))
+  where
+    go : (t : Bool) → cond t (hitsNoted [] (3 * (h .tool - 1)) k (k + 1)) [] ≡ []
+    go true = refl
+    go false = refl
+
+-- an entry where the list alone is lent
+pub put-lent : (l : List ℤ) (k : ℕ) (e : Entry) → put (lent l) k e ≡ lent (listPut l k e)
+put-lent l k e = ap (lentBoth (listPut l k e)) (none-put k e)
 
 -- entries after entries
 pub over-append : (l : Lent) (k : ℕ) (a b : List Entry) → over l k (a ++ b) ≡ over (over l k a) (k + length a) b

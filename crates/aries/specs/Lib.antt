@@ -13,6 +13,7 @@ pub mod Judging
 pub mod WidePoints
 pub mod Machine
 pub mod Entries
+pub mod Tally
 pub mod Moves
 pub mod Lanes
 pub mod Shear
@@ -22,6 +23,7 @@ pub mod Setup
 pub mod Layouts
 pub mod Bodies
 pub mod Program
+pub mod Tallying
 pub mod Runs
 pub mod CopyRuns
 pub mod CopyBlocks
@@ -29,4 +31,5 @@ pub mod CopyPairs
 pub mod Refusals
 pub mod Settings
 pub mod FewestSteps
+pub mod Tools
 pub mod Plates

@@ -112,6 +112,14 @@ lastMacro = 89
 abbrev pub macroNumber : Range
 macroNumber = whole 1 lastMacro
 
+-- tools are numbered from 1 to
+abbrev pub lastTool : ℕ
+lastTool = 99
+
+-- T
+abbrev pub toolNumber : Range
+toolNumber = whole 1 lastTool
+
 -- the most that K and P of a pattern may count
 abbrev pub patternMost : ℕ
 patternMost = 999
@@ -157,7 +165,7 @@ rangesOf Unknown = []
 
 -- N, T and A have one range each wherever they stand
 abbrev pub commonRanges : List (ℕ × Range)
-commonRanges = (letterN, whole 0 9999) ∷ (letterT, whole 1 99) ∷ (letterA, memoryNumber) ∷ []
+commonRanges = (letterN, whole 0 9999) ∷ (letterT, toolNumber) ∷ (letterA, memoryNumber) ∷ []
 
 -- an absent word passes
 abbrev pub numberFits : Letters → ℕ × Range → Bool

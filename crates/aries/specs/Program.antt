@@ -28,6 +28,7 @@ use Rattle.aries.specs.Test.{within}
 use Rattle.aries.specs.Letters.{letterV}
 use Rattle.aries.specs.Text.{longest, strayLine, withoutSpaces, lines, startsWith}
 use Rattle.aries.specs.declared.entry.Entry.{Entry}
+use Rattle.aries.specs.Tally.{tallyOf, noTally}
 use Rattle.aries.specs.Entries.{cells, Made, noEntry, andThen, mapAfter}
 use Rattle.aries.specs.Judging.{Judging, lending, limits}
 use Rattle.aries.specs.Reader.{settingOf}
@@ -217,3 +218,9 @@ unfoldable pub listOf : ℕ → Out (List Entry) → List ℤ
 unfolding cells
 listOf numbers (done entries) = cells entries ++ replicate (numbers - length (cells entries)) (pos 0)
 listOf numbers (refused number line) = replicate numbers (pos 0)
+
+-- The lent tally afterwards: that of the entries; after a refusal all of it is zero.
+unfoldable pub tallyFor : Out (List Entry) → List ℕ
+unfolding tallyOf
+tallyFor (done entries) = tallyOf entries
+tallyFor (refused number line) = noTally

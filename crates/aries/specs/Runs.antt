@@ -18,6 +18,7 @@ use Rattle.aries.specs.declared.setup.Advance.{Advance}
 use Rattle.aries.specs.Outcome.{Out, done, refused}
 use Rattle.aries.specs.declared.entry.Entry.{Entry}
 use Rattle.aries.specs.Entries.{Made, numbersOf}
+use Rattle.aries.specs.Tallying.{tallyPut}
 use Rattle.aries.specs.Judging.{Judging, limits}
 
 abbrev pub statusOf : {A : Type 0} → Out A → Status
@@ -26,12 +27,17 @@ statusOf (refused number line) = Refused number line
 
 -- ---- What is lent
 
--- the list
+-- the list, and the tally
 pub record Lent : Type 0 where
   pub list : List ℤ
+  pub tally : List ℕ
 
+abbrev pub lentBoth : List ℤ → List ℕ → Lent
+lentBoth l t = record { list = l; tally = t }
+
+-- the list alone; a tally that is not lent has no numbers
 abbrev pub lent : List ℤ → Lent
-lent l = record { list = l }
+lent l = lentBoth l []
 
 -- the list with an entry at place k, four numbers a place
 abbrev pub write : List ℤ → ℕ → Entry → List ℤ
@@ -41,9 +47,13 @@ write l k e =
     (4 * k + 3)
     (numbersOf e .mode)
 
--- an entry at place k, where the list has that place
+-- the list with an entry at place k, where it has that place
+abbrev pub listPut : List ℤ → ℕ → Entry → List ℤ
+listPut l k e = cond (ltb k (length l / 4)) (write l k e) l
+
+-- an entry at place k
 abbrev pub put : Lent → ℕ → Entry → Lent
-put l k e = lent (cond (ltb k (length (l .list) / 4)) (write (l .list) k e) (l .list))
+put l k e = lentBoth (listPut (l .list) k e) (tallyPut (l .tally) k e)
 
 -- entries from place k on
 unfoldable pub over : Lent → ℕ → List Entry → Lent

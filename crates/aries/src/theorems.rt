@@ -5,6 +5,7 @@ ghost use Rattle.aries.specs.Plates.{PlatesHold, MillimetresHold};
 ghost use Rattle.aries.specs.Refusals.{RefusalsNamed};
 ghost use Rattle.aries.specs.Settings.{BaseKept, SettingHolds, PointedAlike};
 ghost use Rattle.aries.specs.FewestSteps.{FewestSteps};
+ghost use Rattle.aries.specs.Tools.{ToolsNamed, TallyAddsUp};
 
 // What is proved of the definitions alone. Each function does nothing; its contract is the theorem.
 
@@ -83,4 +84,14 @@ pub fn pointed_alike()
 // less 0.5 mm; there is one hit exactly where the tool is as long as the cut.
 pub fn fewest_steps()
     ensures { λ _. ⌜ FewestSteps ⌝ }
+{}
+
+// Every hit of a text that is accepted has a tool from 1 to 99,
+pub fn tools_named()
+    ensures { λ _. ⌜ ToolsNamed ⌝ }
+{}
+
+// so that the hits of all tools in its tally add up to its hits: each is counted for one tool, and no stop is.
+pub fn tally_adds_up()
+    ensures { λ _. ⌜ TallyAddsUp ⌝ }
 {}

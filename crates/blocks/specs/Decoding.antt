@@ -1,16 +1,11 @@
 -- What the words of a block are judged to be, and the tests of refusals 5 and 6 as the code goes through them.
 use mathlib.Core.Bool.{Bool, not, cond, _&&_, _||_}
-use mathlib.Core.List.{List}
-use Prim.Native.Nat.{ℕ}
-use lib.Dec.{eqb}
 use Rattle.aries.specs.declared.reader.Setting.{Setting}
 use Rattle.aries.specs.declared.word.Word.{Word}
 use Rattle.aries.specs.declared.block.Axis.{Axis}
 use Rattle.aries.specs.declared.block.Judged.{Judged}
 use Rattle.aries.specs.declared.block.Kind.{Kind}
 use Rattle.aries.specs.declared.block.Judged.the-variants as Judged
-use Rattle.aries.specs.Letters.{indexOf}
-use Rattle.aries.specs.Test.{every}
 use Rattle.aries.specs.ByLetter.{Letters}
 use Rattle.aries.specs.Forms.{kindOf}
 use Rattle.aries.specs.Numbers.{Range, isOfRange, inHundredths, lengthsFit, isRanged}
@@ -35,10 +30,6 @@ lettersAs t w s k = cond (isCounted w s k) (inHundredths t k w) w
 
 abbrev pub lettersLeft : Setting → Letters → Summary → Letters
 lettersLeft t w s = lettersAs t w s (kindOf (wordsBy w s))
-
--- a letter is none of these
-abbrev pub isOther : List ℕ → ℕ → Bool
-isOther ls letter = every (λ l. not (eqb (indexOf letter) (indexOf l))) ls
 
 -- a word against a range; an absent one passes
 abbrev pub passes : Range → Word → Bool

@@ -10,10 +10,10 @@ ghost use Rattle.words.specs.Keeping.{lettersOf, measureBy};
 use crate::lookup::has;
 use crate::lookup::is_plain;
 use crate::lookup::size_of;
-use crate::lookup::word_at;
 use aries::block::Kind;
 use aries::word::Word;
 use words::Summary;
+use words::word_at;
 
 // How many of some letters stand in the block: of one letter,
 fn one(forms: &[u8; 26], numbers: &[i32; 26], a: u8) -> usize

@@ -1,7 +1,7 @@
 // From the words of a block to what it asks for: its kind, refusals 5 and 6, and the block of its kind.
 ghost use mathlib.Core.Path.{_≡_};
 ghost use Rattle.blocks.specs.Decoding.{judgedOf, lettersLeft};
-ghost use Rattle.blocks.specs.Sized.{SizedLists};
+ghost use Rattle.lengths.specs.Sized.{SizedLists};
 ghost use Rattle.words.specs.Keeping.{lettersOf};
 use aries::block::Judged;
 use aries::reader::Setting;
@@ -9,9 +9,8 @@ use aries::refusal;
 use words::Summary;
 
 pub mod kind; // codes
-pub mod lengths; // lengths and angles in hundredths, and refusal 6 of them
 pub mod letters; // refusal 5
-pub mod lookup; // the word with a letter
+pub mod lookup; // what is told of a word
 pub mod numbers; // refusal 6
 pub mod request; // what a block asks for
 

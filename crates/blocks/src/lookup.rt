@@ -2,20 +2,10 @@ ghost use mathlib.Core.Path.{_≡_};
 ghost use Prim.Native.Nat.{_≤_};
 ghost use lib.IntN.{pos, natAbs};
 ghost use lib.Signed.{ltZ};
-ghost use Rattle.aries.specs.ByLetter.{at, has, isPlain};
+ghost use Rattle.aries.specs.ByLetter.{has, isPlain};
 ghost use Rattle.words.specs.Keeping.{lettersOf};
 use aries::word::Word;
-
-// The word with a letter, from the two lists of a block (`words::read_words`).
-pub fn word_at(forms: &[u8; 26], numbers: &[i32; 26], letter: u8) -> Word
-    requires { ⌜ (65 ≤ letter) × (letter ≤ 90) ⌝ }
-    ensures { λ r. ⌜ r ≡ at (lettersOf (now (forms .entry)) (now (numbers .entry))) letter ⌝ }
-{
-    let i = (letter - b'A') as usize;
-    let form = forms[i];
-    let number = numbers[i];
-    words::word_in(form, number)
-}
+use words::word_at;
 
 // Whether a letter stands in the block.
 pub fn has(forms: &[u8; 26], numbers: &[i32; 26], letter: u8) -> bool

@@ -8,11 +8,13 @@ use crate::lookup::is_negative;
 use crate::lookup::is_plain;
 use crate::lookup::is_positive;
 use crate::lookup::size_of;
-use crate::lookup::word_at;
 use aries::block::Kind;
 use aries::word::Word;
+use words::word_at;
 
-// Pattern memories and macros are numbered from 1 to these.
+// Tools, pattern memories and macros are numbered from 1 to these.
+const LAST_TOOL: u32 = 99;
+
 const LAST_MEMORY: u32 = 5;
 
 const LAST_MACRO: u32 = 89;
@@ -66,7 +68,7 @@ fn common_fit(forms: &[u8; 26], numbers: &[i32; 26]) -> bool
     ensures { λ r. ⌜ r ≡ every (numberFits (lettersOf (now (forms .entry)) (now (numbers .entry)))) commonRanges ⌝ }
 {
     whole(word_at(forms, numbers, b'N'), 0, 9999)
-        & whole(word_at(forms, numbers, b'T'), 1, 99)
+        & whole(word_at(forms, numbers, b'T'), 1, LAST_TOOL)
         & whole(word_at(forms, numbers, b'A'), 1, LAST_MEMORY)
 }
 

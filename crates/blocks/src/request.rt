@@ -6,12 +6,11 @@ ghost use Rattle.sine.specs.Sine.{turn};
 ghost use Rattle.aries.specs.Numbers.{isRanged};
 ghost use Rattle.aries.specs.Blocks.{count, axes, steps, pointOfXY, layout, copies, linePattern, arcPattern, circlePattern, gridPattern, shearPattern, patternBlock, mBlock, blockOf};
 ghost use Rattle.aries.specs.Letters.{letterA, letterK, letterP, letterQ, letterT, letterW};
-ghost use Rattle.blocks.specs.Sized.{Sized};
+ghost use Rattle.lengths.specs.Sized.{Sized};
 ghost use Rattle.blocks.specs.Decoding.{axisOf};
 ghost use Rattle.words.specs.Keeping.{lettersOf, measureBy};
 use crate::lookup::is_negative;
 use crate::lookup::size_of;
-use crate::lookup::word_at;
 use aries::block::Axes;
 use aries::block::Axis;
 use aries::block::Block;
@@ -28,6 +27,7 @@ use aries::block::Steps;
 use aries::point::Point;
 use aries::word::Word;
 use words::Summary;
+use words::word_at;
 
 // A whole number of a word that a byte holds: a tool, a memory, a macro, a corner.
 fn small(v: Word) -> u8

@@ -10,12 +10,13 @@ use aries::state::Status;
 use stretches::Sequel;
 use stretches::look_ahead;
 use stretches::run_stretch;
+use tallies::FIGURES;
 ghost use mathlib.Core.Path.{_≡_};
 ghost use mathlib.Core.Bool.{cond};
 ghost use lib.Dec.{ltb};
 ghost use lib.ListN.{drop};
 ghost use Rattle.aries.specs.Macros.{bodiesOf, call, runLines};
-ghost use Rattle.aries.specs.Runs.{lent, Carried};
+ghost use Rattle.aries.specs.Runs.{lentBoth, Carried};
 ghost use Rattle.aries.specs.Text.{lines};
 ghost use Rattle.stretches.specs.Stretches.{LinesFit};
 ghost use Rattle.bodies.specs.Rest.{rest, RestFits};
@@ -44,6 +45,7 @@ pub fn clip(place: usize, limit: usize) -> usize
 pub fn run_blocks(
     depth: u8,
     list: &mut [i32],
+    tally: &mut [u64; FIGURES],
     text: &[u8],
     body: &[u8],
     from: Opening,
@@ -52,12 +54,12 @@ pub fn run_blocks(
     progress: Progress,
 ) -> Outcome
     requires { ⌜ LinesFit (from .line) (from .at) (now body) ⌝ }
-    ensures { λ r. ⌜ Carried r frame (lent (now (list .entry))) (lent (now (list .exit))) progress (λ j. runLines j (call j (bodiesOf (now (text .entry)) macros) depth) frame (from .line) (lines (drop (from .at) (now (body .entry))))) ⌝ }
+    ensures { λ r. ⌜ Carried r frame (lentBoth (now (list .entry)) (now (tally .entry))) (lentBoth (now (list .exit)) (now (tally .exit))) progress (λ j. runLines j (call j (bodiesOf (now (text .entry)) macros) depth) frame (from .line) (lines (drop (from .at) (now (body .entry))))) ⌝ }
 {
     let at = from.at;
     let line = from.line;
     let start = look_ahead(frame, body, at, line);
-    let stretch = run_stretch(list, body, at, line, start, frame, progress);
+    let stretch = run_stretch(list, tally, body, at, line, start, frame, progress);
     let sequel = stretch.sequel;
     if sequel.is_end() {
         return stretch.outcome;
@@ -65,6 +67,7 @@ pub fn run_blocks(
     run_rest(
         depth,
         list,
+        tally,
         text,
         body,
         sequel,
@@ -79,6 +82,7 @@ pub fn run_blocks(
 pub fn run_rest(
     depth: u8,
     list: &mut [i32],
+    tally: &mut [u64; FIGURES],
     text: &[u8],
     body: &[u8],
     from: Sequel,
@@ -87,7 +91,7 @@ pub fn run_rest(
     progress: Progress,
 ) -> Outcome
     requires { ⌜ RestFits (now body) from ⌝ }
-    ensures { λ r. ⌜ Carried r frame (lent (now (list .entry))) (lent (now (list .exit))) progress (λ j. rest j (call j (bodiesOf (now (text .entry)) macros) depth) frame (now (body .entry)) from) ⌝ }
+    ensures { λ r. ⌜ Carried r frame (lentBoth (now (list .entry)) (now (tally .entry))) (lentBoth (now (list .exit)) (now (tally .exit))) progress (λ j. rest j (call j (bodiesOf (now (text .entry)) macros) depth) frame (now (body .entry)) from) ⌝ }
 {
     let mut now = progress;
     let mut sequel = from;
@@ -100,13 +104,22 @@ pub fn run_rest(
                 return Outcome::refused(refusal::OUT_OF_PLACE, place, now);
             }
             Sequel::Call(number, end, place) => {
-                let outcome = run_body(depth, list, text, number, place, macros, frame, now);
+                let outcome = run_body(depth, list, tally, text, number, place, macros, frame, now);
                 let ended = outcome.status;
                 if let Status::Refused(_, _) = ended {
                     return outcome;
                 }
                 let next = look_ahead(frame, body, end, place);
-                let stretch = run_stretch(list, body, end, place, next, frame, outcome.progress);
+                let stretch = run_stretch(
+                    list,
+                    tally,
+                    body,
+                    end,
+                    place,
+                    next,
+                    frame,
+                    outcome.progress,
+                );
                 let ran = stretch.outcome;
                 let status = ran.status;
                 now = stretch.outcome.progress;
@@ -124,6 +137,7 @@ pub fn run_rest(
 pub fn run_body(
     depth: u8,
     list: &mut [i32],
+    tally: &mut [u64; FIGURES],
     text: &[u8],
     number: u8,
     line: u64,
@@ -131,7 +145,7 @@ pub fn run_body(
     frame: Frame,
     progress: Progress,
 ) -> Outcome
-    ensures { λ r. ⌜ Carried r frame (lent (now (list .entry))) (lent (now (list .exit))) progress (λ j. call j (bodiesOf (now (text .entry)) macros) depth frame number line) ⌝ }
+    ensures { λ r. ⌜ Carried r frame (lentBoth (now (list .entry)) (now (tally .entry))) (lentBoth (now (list .exit)) (now (tally .exit))) progress (λ j. call j (bodiesOf (now (text .entry)) macros) depth frame number line) ⌝ }
 {
     let found = find_in(&macros.start, &macros.end, &macros.line, number);
     let Found::Body(begin, end, first) = found else {
@@ -145,7 +159,7 @@ pub fn run_body(
     let body = &text[from..to];
     let number = first as u64;
     let start = look_ahead(frame, body, 0, number);
-    let stretch = run_stretch(list, body, 0, number, start, frame, progress);
+    let stretch = run_stretch(list, tally, body, 0, number, start, frame, progress);
     let sequel = stretch.sequel;
     if sequel.is_end() {
         return stretch.outcome;
@@ -153,6 +167,7 @@ pub fn run_body(
     run_rest(
         depth - 1,
         list,
+        tally,
         text,
         body,
         sequel,

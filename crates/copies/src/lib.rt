@@ -18,12 +18,13 @@ use lanes::Cursor;
 use stretches::Ahead;
 use stretches::look_ahead;
 use stretches::run_stretch;
+use tallies::FIGURES;
 ghost use mathlib.Core.Path.{_≡_};
 ghost use Rattle.aries.specs.Layouts.{copyStart, partOf, copy, copyPart};
 ghost use Rattle.aries.specs.Macros.{bodiesOf};
 ghost use Rattle.aries.specs.WidePoints.{pointOf};
 ghost use Rattle.aries.specs.Reader.{readerOf};
-ghost use Rattle.aries.specs.Runs.{Lent, lent, Carried};
+ghost use Rattle.aries.specs.Runs.{Lent, lentBoth, Carried};
 ghost use Rattle.aries.specs.Setup.{ordinaryFrame};
 ghost use Rattle.stretches.specs.Lookahead.{ahead};
 ghost use Rattle.stretches.specs.Stretches.{LinesFit};
@@ -58,6 +59,7 @@ fn copy_blank(
 // The macro store is handed on only where a stretch of direct blocks is not all.
 fn copy_at(
     list: &mut [i32],
+    tally: &mut [u64; FIGURES],
     text: &[u8],
     body: &[u8],
     first: u64,
@@ -71,7 +73,7 @@ fn copy_at(
     entries: usize,
 ) -> Outcome
     requires { ⌜ (LinesFit first 0 (now body)) × (start ≡ ahead (readerOf frame) (now body) 0 first) ⌝ }
-    ensures { λ r. ⌜ Carried r frame (lent (now (list .entry))) (lent (now (list .exit))) (record { state = found; blocks = blocks; entries = entries }) (λ j. copy j (partOf j (bodiesOf (now (text .entry)) macros) (bodyOf first (now (body .entry)))) frame line found (pointOf place)) ⌝ }
+    ensures { λ r. ⌜ Carried r frame (lentBoth (now (list .entry)) (now (tally .entry))) (lentBoth (now (list .exit)) (now (tally .exit))) (record { state = found; blocks = blocks; entries = entries }) (λ j. copy j (partOf j (bodiesOf (now (text .entry)) macros) (bodyOf first (now (body .entry)))) frame line found (pointOf place)) ⌝ }
 {
     let located = place.located();
     let Located::At(point) = located else {
@@ -91,7 +93,7 @@ fn copy_at(
         blocks,
         entries,
     };
-    let stretch = run_stretch(list, body, 0, first, start, here, begun);
+    let stretch = run_stretch(list, tally, body, 0, first, start, here, begun);
     let sequel = stretch.sequel;
     if sequel.is_end() {
         return stretch.outcome;
@@ -99,6 +101,7 @@ fn copy_at(
     bodies::run_rest(
         bodies::FURTHER_CALLS,
         list,
+        tally,
         text,
         body,
         sequel,
@@ -112,6 +115,7 @@ fn copy_at(
 // counts.
 fn copy_next(
     list: &mut [i32],
+    tally: &mut [u64; FIGURES],
     text: &[u8],
     body: &[u8],
     first: u64,
@@ -124,10 +128,11 @@ fn copy_next(
     before: Progress,
 ) -> Outcome
     requires { ⌜ (LinesFit first 0 (now body)) × (start ≡ ahead (readerOf frame) (now body) 0 first) ⌝ }
-    ensures { λ r. ⌜ Carried r frame (lent (now (list .entry))) (lent (now (list .exit))) before (λ j. copy j (partOf j (bodiesOf (now (text .entry)) macros) (bodyOf first (now (body .entry)))) frame line saved (pointOf place)) ⌝ }
+    ensures { λ r. ⌜ Carried r frame (lentBoth (now (list .entry)) (now (tally .entry))) (lentBoth (now (list .exit)) (now (tally .exit))) before (λ j. copy j (partOf j (bodiesOf (now (text .entry)) macros) (bodyOf first (now (body .entry)))) frame line saved (pointOf place)) ⌝ }
 {
     copy_at(
         list,
+        tally,
         text,
         body,
         first,
@@ -145,6 +150,7 @@ fn copy_next(
 // Copies a part, place after place up to the first refusal. Its first block has been decoded already.
 fn copy_body(
     list: &mut [i32],
+    tally: &mut [u64; FIGURES],
     text: &[u8],
     body: &[u8],
     first: u64,
@@ -157,7 +163,7 @@ fn copy_body(
     progress: Progress,
 ) -> Outcome
     requires { ⌜ (LinesFit first 0 (now body)) × (start ≡ ahead (readerOf frame) (now body) 0 first) ⌝ }
-    ensures { λ r. ⌜ Carried r frame (lent (now (list .entry))) (lent (now (list .exit))) progress (λ j. allCopies j (partOf j (bodiesOf (now (text .entry)) macros) (bodyOf first (now (body .entry)))) frame line layout copies) ⌝ }
+    ensures { λ r. ⌜ Carried r frame (lentBoth (now (list .entry)) (now (tally .entry))) (lentBoth (now (list .exit)) (now (tally .exit))) progress (λ j. allCopies j (partOf j (bodiesOf (now (text .entry)) macros) (bodyOf first (now (body .entry)))) frame line layout copies) ⌝ }
 {
     let origin = frame.origin;
     let found = progress.state;
@@ -170,6 +176,7 @@ fn copy_body(
         let place = placing::copy_place(origin, layout, copies, cursor);
         let outcome = copy_next(
             list,
+            tally,
             text,
             body,
             first,
@@ -195,6 +202,7 @@ fn copy_body(
 // Copies the part with a body over the layout in force. Its first block is looked for and decoded once.
 fn copy_over(
     list: &mut [i32],
+    tally: &mut [u64; FIGURES],
     text: &[u8],
     body: &[u8],
     first: u16,
@@ -205,7 +213,7 @@ fn copy_over(
     copies: Copies,
     progress: Progress,
 ) -> Outcome
-    ensures { λ r. ⌜ Carried r frame (lent (now (list .entry))) (lent (now (list .exit))) progress (λ j. allCopies j (partOf j (bodiesOf (now (text .entry)) macros) (bodyOf first (now (body .entry)))) frame line layout copies) ⌝ }
+    ensures { λ r. ⌜ Carried r frame (lentBoth (now (list .entry)) (now (tally .entry))) (lentBoth (now (list .exit)) (now (tally .exit))) progress (λ j. allCopies j (partOf j (bodiesOf (now (text .entry)) macros) (bodyOf first (now (body .entry)))) frame line layout copies) ⌝ }
 {
     let number = first as u64;
     let start = look_ahead(frame, body, 0, number);
@@ -214,6 +222,7 @@ fn copy_over(
     }
     copy_body(
         list,
+        tally,
         text,
         body,
         number,
@@ -230,6 +239,7 @@ fn copy_over(
 // A G75 or G76 block: the part has to be stored and a layout in force, and then the copies are made.
 pub fn copy_part(
     list: &mut [i32],
+    tally: &mut [u64; FIGURES],
     text: &[u8],
     setup: Setup,
     macros: Macros,
@@ -237,7 +247,7 @@ pub fn copy_part(
     copies: Copies,
     progress: Progress,
 ) -> Outcome
-    ensures { λ r. ⌜ Carried r (ordinaryFrame setup) (lent (now (list .entry))) (lent (now (list .exit))) progress (λ j. copyPart j (bodiesOf (now (text .entry)) macros) setup line copies) ⌝ }
+    ensures { λ r. ⌜ Carried r (ordinaryFrame setup) (lentBoth (now (list .entry)) (now (tally .entry))) (lentBoth (now (list .exit)) (now (tally .exit))) progress (λ j. copyPart j (bodiesOf (now (text .entry)) macros) setup line copies) ⌝ }
 {
     let found = macros.find(copies.part);
     let Found::Body(start, end, first) = found else {
@@ -252,6 +262,7 @@ pub fn copy_part(
     let frame = setup.frame();
     copy_over(
         list,
+        tally,
         text,
         &text[from..to],
         first,

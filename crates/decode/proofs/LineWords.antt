@@ -24,10 +24,10 @@ use Rattle.words.specs.Gathering.{Gathers}
 use Rattle.words.specs.Keeping.{lettersOf, summaryOf}
 use Rattle.words.proofs.Summaries.{summary-words}
 use Rattle.words.proofs.Gathering.{front-formed, AllFormed, gathers-words}
-use Rattle.blocks.specs.Sized.{Sized}
+use Rattle.lengths.specs.Sized.{Sized}
+use Rattle.lengths.proofs.Sized.{by-letter-sized}
+use Rattle.lengths.proofs.Hundredths.{both-pass, hundredths-sized}
 use Rattle.blocks.specs.Decoding.{judgedAs, judgedOf, lettersAs, lettersLeft}
-use Rattle.blocks.proofs.Sized.{by-letter-sized}
-use Rattle.blocks.proofs.Hundredths.{both-pass, hundredths-sized}
 use Rattle.blocks.proofs.Counting.{is-counted}
 
 -- ---- Words that are judged

@@ -1,6 +1,5 @@
 -- Laws that the functions' proofs cite.
 pub mod Turns
-pub mod Placed
 pub mod RunFrom
 pub mod Stretches
 pub mod Underway

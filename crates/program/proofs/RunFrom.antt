@@ -32,7 +32,7 @@ use Rattle.text.proofs.Lines.{line-short, line-goes-on, feed-after, lines-at, l
 use Rattle.decode.specs.Decoding.{decodedAt}
 use Rattle.decode.proofs.Decoding.{decoded-instruction, decoded-refused}
 use Rattle.aries.proofs.Calls.{begin-spent, begin-refused, begin-done}
-use Rattle.program.specs.Turns.{program, placed, linesFrom}
+use Rattle.turns.specs.Turns.{program, placed, linesFrom}
 
 -- whether the block at a place counts, by its first byte
 abbrev pub countedAt : List ℕ → ℕ → Bool

@@ -28,9 +28,10 @@ use Rattle.stretches.specs.declared.Sequel.{Sequel}
 use Rattle.stretches.specs.declared.Sequel.the-variants as Sequel
 use Rattle.stretches.specs.Stretches.{Stretched, stepOf, blockStep, begunStep, lineStep, onward, stretch}
 use Rattle.stretches.proofs.Sequels.{Behind, first-line}
-use Rattle.program.specs.declared.turn.Next.the-variants as Next
-use Rattle.program.specs.declared.turn.Turn.{Turn}
-use Rattle.program.specs.Turns.{program, at, placed, linesFrom, leftOf, Comes, Beyond, Turns}
+use Rattle.turns.specs.declared.turn.Next.the-variants as Next
+use Rattle.turns.specs.declared.turn.Turn.{Turn}
+use Rattle.turns.specs.Turns.{program, at, placed, linesFrom, leftOf, Comes}
+use Rattle.program.specs.Lines.{Beyond, Turns}
 use Rattle.program.proofs.RunFrom.{from-end}
 
 -- entries, and then entries

@@ -1,4 +1,4 @@
--- Laws of turns: what is left behind something that makes no entry, and behind the lines from a place on.
+-- Laws of turns: what is left behind the lines from a place on.
 use mathlib.Core.Path.{_≡_, refl, sym, subst, _∙_}
 use mathlib.Core.List.{List}
 use Prim.Native.Nat.{ℕ}
@@ -9,38 +9,15 @@ use Rattle.aries.specs.declared.setup.Stage.{Stage}
 use Rattle.aries.specs.declared.setup.Stage.the-variants.{Running}
 use Rattle.aries.specs.declared.state.Progress.{Progress}
 use Rattle.aries.specs.Outcome.{Out, refused}
-use Rattle.aries.specs.Entries.{Made, noEntry, andThen}
-use Rattle.aries.specs.Judging.{Judging, limits}
+use Rattle.aries.specs.Entries.{Made, andThen}
+use Rattle.aries.specs.Judging.{limits}
 use Rattle.aries.specs.Runs.{Lent, entriesOfProgram, Ran}
 use Rattle.aries.specs.declared.setup.Program.{Program}
-use Rattle.aries.proofs.Runs.{no-entry-then}
-use Rattle.program.specs.declared.turn.Next.{Next}
-use Rattle.program.specs.declared.turn.Next.the-variants.{Line, Run, Open, Refused}
-use Rattle.program.specs.declared.turn.Turn.{Turn}
-use Rattle.program.specs.Turns.{program, at, placed, linesFrom, leftOf, Comes, Beyond, Leaves, Settles, Turns}
-
--- ---- Something that makes no entry
-
-module _ {r : Turn} (end line : ℕ) (s : Setup) (g : Progress) (what : Judging → List ℕ → Macros → Out (Made Program)) where
-  -- a refusal
-  pub leaves-refused :
-      {number : ℕ} → r ≡ record { stage = Running; setup = s; progress = g; next = Refused number line }
-      → ((t : List ℕ) (m : Macros) → what (limits (s .job)) t m ≡ refused number line) → Leaves r end line s g what
-  leaves-refused e o = rw e (record { same = λ t m. rw (o t m); entries = refl; job = refl; comes = tt })
-
-  -- the lines behind it follow
-  pub leaves-line :
-      {stage : Stage} {s' : Setup} {g' : Progress} → r ≡ record { stage = stage; setup = s'; progress = g'; next = Line end line } → s' .job ≡ s .job
-      → g' .entries ≡ g .entries → ((t : List ℕ) (m : Macros) → what (limits (s .job)) t m ≡ noEntry (program stage s' m g')) → Leaves r end line s g what
-  leaves-line {stage} {s'} {g'} e i h o =
-      rw e (record {
-        same = λ t m. rw (o t m, no-entry-then (program stage s' m g') (linesFrom (limits (s .job)) t end line));
-        entries = h;
-        job = i;
-        comes = (refl, refl);
-      })
-
--- ---- The lines from a place on
+use Rattle.turns.specs.declared.turn.Next.{Next}
+use Rattle.turns.specs.declared.turn.Next.the-variants.{Line, Run, Open, Refused}
+use Rattle.turns.specs.declared.turn.Turn.{Turn}
+use Rattle.turns.specs.Turns.{program, at, placed, linesFrom, leftOf, Comes, Settles}
+use Rattle.program.specs.Lines.{Beyond, Turns}
 
 -- where something comes, as a place further on
 pub comes-beyond : (t : List ℕ) (from end line : ℕ) (n : Next) → Beyond t from end line → Comes (λ e l. (e ≡ end) × (l ≡ line)) n → Comes (Beyond t from) n

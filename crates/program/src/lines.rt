@@ -1,7 +1,3 @@
-use crate::outside;
-use crate::turn::Called;
-use crate::turn::Next;
-use crate::turn::Turn;
 use aries::block::Decoded;
 use aries::job::Job;
 use aries::macros::Macros;
@@ -17,13 +13,19 @@ use storing::open_body;
 use stretches::Sequel;
 use stretches::look_ahead;
 use stretches::run_stretch;
+use tallies::FIGURES;
+use turns::outside;
+use turns::turn::Called;
+use turns::turn::Next;
+use turns::turn::Turn;
 ghost use Prim.Native.Nat.{_≤_, _<_, _+_};
 ghost use lib.ListN.{length};
 ghost use Rattle.aries.specs.declared.setup.Stage.the-variants.{Running, Storing};
 ghost use Rattle.aries.specs.Program.{freshProgram, runFrom};
-ghost use Rattle.aries.specs.Runs.{Lent, lent, Advanced};
+ghost use Rattle.aries.specs.Runs.{Lent, lentBoth, Advanced};
 ghost use Rattle.aries.specs.Text.{lines};
-ghost use Rattle.program.specs.Turns.{Alone, InText, Turns, Runs};
+ghost use Rattle.turns.specs.Turns.{Alone};
+ghost use Rattle.program.specs.Lines.{InText, Turns, Runs};
 
 const LETTER_V: u8 = b'V';
 
@@ -87,6 +89,7 @@ fn pass_over(text: &[u8], at: usize, line: u64, setup: Setup, progress: Progress
 // The direct blocks from a place on, while the program runs, and the block that comes after them.
 fn run_on(
     list: &mut [i32],
+    tally: &mut [u64; FIGURES],
     text: &[u8],
     at: usize,
     line: u64,
@@ -94,11 +97,11 @@ fn run_on(
     progress: Progress,
 ) -> Turn
     requires { ⌜ InText (now text) at line ⌝ }
-    ensures { λ r. ⌜ Turns r (now (text .entry)) at line Running setup progress (lent (now (list .entry))) (lent (now (list .exit))) ⌝ }
+    ensures { λ r. ⌜ Turns r (now (text .entry)) at line Running setup progress (lentBoth (now (list .entry)) (now (tally .entry))) (lentBoth (now (list .exit)) (now (tally .exit))) ⌝ }
 {
     let frame = setup.frame();
     let start = look_ahead(frame, text, at, line);
-    let stretch = run_stretch(list, text, at, line, start, frame, progress);
+    let stretch = run_stretch(list, tally, text, at, line, start, frame, progress);
     let outcome = stretch.outcome;
     let left = outcome.progress;
     let status = outcome.status;
@@ -118,6 +121,7 @@ fn run_on(
 // The lines from a place on up to a block that needs the stored bodies, or fewer.
 fn run_turn(
     list: &mut [i32],
+    tally: &mut [u64; FIGURES],
     text: &[u8],
     at: usize,
     line: u64,
@@ -126,10 +130,10 @@ fn run_turn(
     progress: Progress,
 ) -> Turn
     requires { ⌜ InText (now text) at line ⌝ }
-    ensures { λ r. ⌜ Turns r (now (text .entry)) at line stage setup progress (lent (now (list .entry))) (lent (now (list .exit))) ⌝ }
+    ensures { λ r. ⌜ Turns r (now (text .entry)) at line stage setup progress (lentBoth (now (list .entry)) (now (tally .entry))) (lentBoth (now (list .exit)) (now (tally .exit))) ⌝ }
 {
     match stage {
-        Stage::Running => run_on(list, text, at, line, setup, progress),
+        Stage::Running => run_on(list, tally, text, at, line, setup, progress),
         Stage::Storing => pass_over(text, at, line, setup, progress),
         Stage::Fresh => run_alone(text, at, line, Stage::Fresh, setup, progress),
         Stage::Ended => run_alone(text, at, line, Stage::Ended, setup, progress),
@@ -139,6 +143,7 @@ fn run_turn(
 // A block that runs stored bodies, in a line with a number. Four calls may be open.
 fn run_called(
     list: &mut [i32],
+    tally: &mut [u64; FIGURES],
     text: &[u8],
     called: Called,
     line: u64,
@@ -146,13 +151,14 @@ fn run_called(
     macros: Macros,
     progress: Progress,
 ) -> Outcome
-    ensures { λ r. ⌜ Runs r (now (text .entry)) called line setup macros progress (lent (now (list .entry))) (lent (now (list .exit))) ⌝ }
+    ensures { λ r. ⌜ Runs r (now (text .entry)) called line setup macros progress (lentBoth (now (list .entry)) (now (tally .entry))) (lentBoth (now (list .exit)) (now (tally .exit))) ⌝ }
 {
     match called {
         Called::Macro(number) => {
             bodies::run_body(
                 bodies::MOST_CALLS,
                 list,
+                tally,
                 text,
                 number,
                 line,
@@ -162,15 +168,15 @@ fn run_called(
             )
         }
         Called::Part(copies) => {
-            copies::copy_part(list, text, setup, macros, line, copies, progress)
+            copies::copy_part(list, tally, text, setup, macros, line, copies, progress)
         }
     }
 }
 
 // A text without spaces, line after line up to the first refusal.
-pub fn run_text(job: Job, list: &mut [i32], text: &[u8]) -> Advance
+pub fn run_text(job: Job, list: &mut [i32], tally: &mut [u64; FIGURES], text: &[u8]) -> Advance
     requires { ⌜ length (now text) ≤ 60000 ⌝ }
-    ensures { λ r. ⌜ Advanced r (lent (now (list .entry))) (lent (now (list .exit))) (freshProgram job) (λ j. runFrom j (now (text .entry)) 0 1 (lines (now (text .entry)))) ⌝ }
+    ensures { λ r. ⌜ Advanced r (lentBoth (now (list .entry)) (now (tally .entry))) (lentBoth (now (list .exit)) (now (tally .exit))) (freshProgram job) (λ j. runFrom j (now (text .entry)) 0 1 (lines (now (text .entry)))) ⌝ }
 {
     let mut stage = Stage::Fresh;
     let mut setup = Setup::fresh(job);
@@ -179,7 +185,7 @@ pub fn run_text(job: Job, list: &mut [i32], text: &[u8]) -> Advance
     let mut at = 0;
     let mut line = 1;
     while at < text.len() {
-        let turn = run_turn(list, text, at, line, stage, setup, progress);
+        let turn = run_turn(list, tally, text, at, line, stage, setup, progress);
         stage = turn.stage;
         setup = turn.setup;
         progress = turn.progress;
@@ -193,7 +199,7 @@ pub fn run_text(job: Job, list: &mut [i32], text: &[u8]) -> Advance
                 line = number;
             }
             Next::Run(called, end, place) => {
-                let ran = run_called(list, text, called, place, setup, macros, progress);
+                let ran = run_called(list, tally, text, called, place, setup, macros, progress);
                 let status = ran.status;
                 if let Status::Refused(number, place) = status {
                     return Advance::refused(number, place, Program::fresh(job));
@@ -204,7 +210,17 @@ pub fn run_text(job: Job, list: &mut [i32], text: &[u8]) -> Advance
             }
             Next::Open(number, end, place) => {
                 let from = end + 1;
-                let opened = open_body(list, text, number, from, place, setup, macros, progress);
+                let opened = open_body(
+                    list,
+                    tally,
+                    text,
+                    number,
+                    from,
+                    place,
+                    setup,
+                    macros,
+                    progress,
+                );
                 let status = opened.status;
                 if let Status::Refused(number, place) = status {
                     return Advance::refused(number, place, Program::fresh(job));

@@ -20,7 +20,7 @@ use Rattle.aries.specs.Blocks.{decode}
 use Rattle.aries.specs.Bodies.{isClose, closes, isCloseOf, isOwnClose}
 use Rattle.text.specs.Lines.{lineAt, lineEnd}
 use Rattle.decode.specs.Decoding.{decodedOf, decodedAt}
-use Rattle.storing.proofs.Tags.{others}
+use Rattle.aries.proofs.Tags.{others}
 
 -- what is decoded is the V line of number n
 abbrev pub isDecodedClose : ℕ → Decoded → Bool

@@ -11,11 +11,12 @@ use aries::state::Outcome;
 use aries::state::Progress;
 use aries::state::Status;
 use bodies::Opening;
+use tallies::FIGURES;
 ghost use mathlib.Core.Path.{_≡_};
 ghost use Prim.Native.Nat.{_≤_, _<_};
 ghost use lib.ListN.{length, drop};
 ghost use Rattle.aries.specs.Bodies.{isOwnClose, bodySize, runsFirst, firstRun, withStored, openBody};
-ghost use Rattle.aries.specs.Runs.{lent, Carried};
+ghost use Rattle.aries.specs.Runs.{lentBoth, Carried};
 ghost use Rattle.aries.specs.Setup.{ordinaryFrame};
 ghost use Rattle.aries.specs.Text.{lines};
 ghost use Rattle.text.specs.Lines.{lineAt};
@@ -92,6 +93,7 @@ fn runs_first(number: u8, sheet: Sheet) -> bool
 // The first run of a body that is being stored, where there is one; its first line has a number.
 fn first_run(
     list: &mut [i32],
+    tally: &mut [u64; FIGURES],
     text: &[u8],
     number: u8,
     body: &[u8],
@@ -100,7 +102,7 @@ fn first_run(
     macros: Macros,
     progress: Progress,
 ) -> Outcome
-    ensures { λ r. ⌜ Carried r (ordinaryFrame setup) (lent (now (list .entry))) (lent (now (list .exit))) progress (λ j. firstRun j (now (text .entry)) macros number (record { line = first; bytes = now (body .entry) }) setup) ⌝ }
+    ensures { λ r. ⌜ Carried r (ordinaryFrame setup) (lentBoth (now (list .entry)) (now (tally .entry))) (lentBoth (now (list .exit)) (now (tally .exit))) progress (λ j. firstRun j (now (text .entry)) macros number (record { line = first; bytes = now (body .entry) }) setup) ⌝ }
 {
     let sheet = setup.sheet;
     if !runs_first(number, sheet) {
@@ -113,6 +115,7 @@ fn first_run(
     bodies::run_blocks(
         bodies::FURTHER_CALLS,
         list,
+        tally,
         text,
         body,
         opening,
@@ -132,38 +135,49 @@ pub struct Opened {
 // The U line of a macro, in a line with a number; its body starts at a place of the text.
 pub fn open_body(
     list: &mut [i32],
+    tally: &mut [u64; FIGURES],
     text: &[u8],
     number: u8,
     start: usize,
     line: u64,
     setup: Setup,
-    macros: Macros,
+    stored: Macros,
     progress: Progress,
 ) -> Opened
     requires { ⌜ (length (now text) ≤ 60000) × (line < 65535) ⌝ }
-    ensures { λ r. ⌜ Opens r (setup .job) (lent (now (list .entry))) (lent (now (list .exit))) (withStored macros progress) (λ j. openBody j (now (text .entry)) number start line (lines (drop start (now (text .entry)))) setup) ⌝ }
+    ensures { λ r. ⌜ Opens r (setup .job) (lentBoth (now (list .entry)) (now (tally .entry))) (lentBoth (now (list .exit)) (now (tally .exit))) (withStored stored progress) (λ j. openBody j (now (text .entry)) number start line (lines (drop start (now (text .entry)))) setup) ⌝ }
 {
     let frame = setup.frame();
     let found = body_size(frame.reader(), number, text, start);
     let Size::Bytes(size) = found else {
         return Opened {
             status: Status::Refused(refusal::NOT_CLOSED, line),
-            macros,
+            macros: stored,
             progress,
         };
     };
     let end = start + size;
     let first = (line + 1) as u16;
-    let kept = macros.storing(number, start as u16, end as u16, first);
+    let kept = stored.storing(number, start as u16, end as u16, first);
     if MOST_CHARACTERS < kept.characters() {
         return Opened {
             status: Status::Refused(refusal::STORE_FULL, line),
-            macros,
+            macros: stored,
             progress,
         };
     }
     let body = &text[start..end];
-    let ran = first_run(list, text, number, body, first, setup, macros, progress);
+    let ran = first_run(
+        list,
+        tally,
+        text,
+        number,
+        body,
+        first,
+        setup,
+        stored,
+        progress,
+    );
     let status = ran.status;
     let after = ran.progress;
     Opened {

@@ -27,7 +27,7 @@ use Rattle.aries.specs.Macros.{carryDirect}
 use Rattle.aries.specs.Moves.{choosing, target, punch, position, move, setPatternOrigin}
 use Rattle.aries.specs.Runs.{Lent, Ran, entriesMade}
 use Rattle.aries.proofs.Outcomes.{refused≢done, done-injective}
-use Rattle.stretches.specs.Plain.{isPattern, keeping}
+use Rattle.stretches.specs.Plain.{isPattern, isPunch, keeping}
 
 -- ---- By the arms of a match
 
@@ -44,6 +44,11 @@ noPattern = Line (pos 0) (pos 0) 0
 abbrev plainTags : List ℕ
 plainTags = tag Lone ∷ tag (Punch noAxes 0) ∷ tag (Move noAxes 0) ∷ tag (PatternOrigin noAxes) ∷ tag (Nibble false) ∷ tag Idle ∷ tag (Stop false) ∷ []
 
+abbrev punchless : List ℕ
+punchless =
+    tag Lone ∷ tag (Move noAxes 0) ∷ tag (PatternOrigin noAxes) ∷ tag (RunPattern noPattern 0 0) ∷ tag (Recall 0) ∷ tag (Nibble false) ∷ tag Idle
+    ∷ tag (Stop false) ∷ []
+
 abbrev leftTags : List ℕ
 leftTags = tag (RunPattern noPattern 0 0) ∷ tag (Recall 0) ∷ tag Idle ∷ []
 
@@ -58,6 +63,18 @@ other-plain (PatternOrigin a) h = refl
 other-plain (Nibble on) h = refl
 other-plain Idle h = refl
 other-plain (Stop optional) h = refl
+
+-- all but the one that punches
+pub other-no-punch : (d : Direct) → OneOf punchless (tag d) → isPunch d ≡ false
+other-no-punch (Punch a tool) h = absurd (miss punchless (tag (Punch a tool)) tt h)
+other-no-punch (RunPattern p tool memory) h = refl
+other-no-punch (Recall n) h = refl
+other-no-punch Lone h = refl
+other-no-punch (Move a tool) h = refl
+other-no-punch (PatternOrigin a) h = refl
+other-no-punch (Nibble on) h = refl
+other-no-punch Idle h = refl
+other-no-punch (Stop optional) h = refl
 
 -- of a plain block and the two, the one that is left
 pub idle-left : (d : Direct) → isPattern d ≡ false → OneOf leftTags (tag d) → d ≡ Idle

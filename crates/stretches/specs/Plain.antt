@@ -15,6 +15,18 @@ isPattern (Nibble on) = false
 isPattern Idle = false
 isPattern (Stop optional) = false
 
+-- a plain block that makes a hit
+abbrev pub isPunch : Direct → Bool
+isPunch (Punch a tool) = true
+isPunch Lone = false
+isPunch (Move a tool) = false
+isPunch (PatternOrigin a) = false
+isPunch (RunPattern p tool memory) = false
+isPunch (Recall n) = false
+isPunch (Nibble on) = false
+isPunch Idle = false
+isPunch (Stop optional) = false
+
 -- what is left, with the pattern memories of the progress before
 abbrev pub keeping : Progress → Progress → Progress
 keeping before left =

@@ -3,11 +3,13 @@ use aries::state::Frame;
 use aries::state::Outcome;
 use aries::state::Progress;
 use aries::state::State;
+use tallies::FIGURES;
+use tallies::count_hits;
 ghost use mathlib.Core.Path.{_≡_};
 ghost use mathlib.Core.Bool.{true, false};
 ghost use Rattle.aries.specs.Macros.{carryDirect};
-ghost use Rattle.aries.specs.Runs.{lent, Carried};
-ghost use Rattle.stretches.specs.Plain.{isPattern, keeping};
+ghost use Rattle.aries.specs.Runs.{lent, lentBoth, Carried};
+ghost use Rattle.stretches.specs.Plain.{isPattern, isPunch, keeping};
 
 // Whether a block runs a pattern, new or recalled.
 pub fn is_pattern(block: Direct) -> bool
@@ -20,8 +22,8 @@ pub fn is_pattern(block: Direct) -> bool
     }
 }
 
-// A block that runs a pattern and has been decoded and counted.
-pub fn carry_pattern(
+// What a block that runs a pattern leaves.
+fn pattern_outcome(
     list: &mut [i32],
     frame: Frame,
     line: u64,
@@ -38,6 +40,24 @@ pub fn carry_pattern(
         Direct::Recall(n) => patterns::runs::recall(list, frame, line, n, progress),
         _ => Outcome::passed(progress),
     }
+}
+
+// A block that runs a pattern and has been decoded and counted. Its entries are hits with the tool that it leaves.
+pub fn carry_pattern(
+    list: &mut [i32],
+    tally: &mut [u64; FIGURES],
+    frame: Frame,
+    line: u64,
+    block: Direct,
+    progress: Progress,
+) -> Outcome
+    requires { ⌜ isPattern block ≡ true ⌝ }
+    ensures { λ r. ⌜ Carried r frame (lentBoth (now (list .entry)) (now (tally .entry))) (lentBoth (now (list .exit)) (now (tally .exit))) progress (λ j. carryDirect j frame line block) ⌝ }
+{
+    let outcome = pattern_outcome(list, frame, line, block, progress);
+    let tool = outcome.progress.state.tool;
+    count_hits(tally, tool, progress.entries, outcome.progress.entries);
+    outcome
 }
 
 // A progress with the pattern memories of the one before.
@@ -95,19 +115,34 @@ fn plain_outcome(
     }
 }
 
-// Any other direct block that has been decoded and counted. It leaves the pattern memories as they are, and saying so spares
-// copying them, most of the bytes of a state.
+// Whether a plain block makes a hit.
+fn is_punch(block: Direct) -> bool
+    ensures { λ r. ⌜ r ≡ isPunch block ⌝ }
+{
+    match block {
+        Direct::Punch(_, _) => true,
+        _ => false,
+    }
+}
+
+// Any other direct block that has been decoded and counted. A hit is one with the tool that it leaves; a stop is not
+// counted. It leaves the pattern memories as they are, and saying so spares copying them, most of the bytes of a state.
 pub fn carry_plain(
     list: &mut [i32],
+    tally: &mut [u64; FIGURES],
     frame: Frame,
     line: u64,
     block: Direct,
     progress: Progress,
 ) -> Outcome
     requires { ⌜ isPattern block ≡ false ⌝ }
-    ensures { λ r. ⌜ Carried r frame (lent (now (list .entry))) (lent (now (list .exit))) progress (λ j. carryDirect j frame line block) ⌝ }
+    ensures { λ r. ⌜ Carried r frame (lentBoth (now (list .entry)) (now (tally .entry))) (lentBoth (now (list .exit)) (now (tally .exit))) progress (λ j. carryDirect j frame line block) ⌝ }
 {
     let outcome = plain_outcome(list, frame, line, block, progress);
+    if is_punch(block) {
+        let tool = outcome.progress.state.tool;
+        count_hits(tally, tool, progress.entries, outcome.progress.entries);
+    }
     let status = outcome.status;
     Outcome {
         status,

@@ -10,11 +10,12 @@ use aries::state::Frame;
 use aries::state::Outcome;
 use aries::state::Progress;
 use aries::state::Status;
+use tallies::FIGURES;
 ghost use mathlib.Core.Path.{_≡_};
 ghost use lib.ListN.{drop};
 ghost use Rattle.aries.specs.declared.state.Status.the-variants.{Passed, Refused};
 ghost use Rattle.aries.specs.Reader.{readerOf};
-ghost use Rattle.aries.specs.Runs.{lent};
+ghost use Rattle.aries.specs.Runs.{lentBoth};
 ghost use Rattle.aries.specs.Text.{lines};
 ghost use Rattle.stretches.specs.declared.Sequel.the-variants.{End};
 ghost use Rattle.stretches.specs.Lookahead.{ahead};
@@ -118,6 +119,7 @@ pub fn look_ahead(frame: Frame, text: &[u8], from: usize, first: u64) -> Ahead
 // refusal, a block that is not direct or the end of the text.
 pub fn run_stretch(
     list: &mut [i32],
+    tally: &mut [u64; FIGURES],
     text: &[u8],
     from: usize,
     first: u64,
@@ -127,7 +129,7 @@ pub fn run_stretch(
 ) -> Stretch
     requires { ⌜ LinesFit first from (now text) ⌝ }
     requires { ⌜ start ≡ ahead (readerOf frame) (now text) from first ⌝ }
-    ensures { λ r. ⌜ Stretches r frame (lent (now (list .entry))) (lent (now (list .exit))) progress (λ j. stretch j frame from first (lines (drop from (now (text .entry))))) ⌝ }
+    ensures { λ r. ⌜ Stretches r frame (lentBoth (now (list .entry)) (now (tally .entry))) (lentBoth (now (list .exit)) (now (tally .exit))) progress (λ j. stretch j frame from first (lines (drop from (now (text .entry))))) ⌝ }
 {
     let mut now = progress;
     // what is ahead, and the place and line from which it was looked for
@@ -155,14 +157,14 @@ pub fn run_stretch(
                 };
                 // apart, so that what a plain block leaves is not put down as a whole
                 if is_pattern(direct) {
-                    let outcome = carry_pattern(list, frame, number, direct, begun);
+                    let outcome = carry_pattern(list, tally, frame, number, direct, begun);
                     let status = outcome.status;
                     now = outcome.progress;
                     if let Status::Refused(refusal, place) = status {
                         return Stretch::refused(refusal, place, now);
                     }
                 } else {
-                    let outcome = carry_plain(list, frame, number, direct, begun);
+                    let outcome = carry_plain(list, tally, frame, number, direct, begun);
                     let status = outcome.status;
                     now = outcome.progress;
                     if let Status::Refused(refusal, place) = status {

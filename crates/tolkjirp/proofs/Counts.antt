@@ -23,7 +23,7 @@ counted numbers (done entries) e =
     omega (arith, length-cells entries)
 
 pub count-within :
-    (answer : Answer) (list : List ℤ) (numbers : ℕ) (out : Out (List Entry)) → Answers answer list numbers out → length list ≡ numbers
-    → 4 * countOf answer ≤ numbers
-count-within answer list numbers out p e =
+    (answer : Answer) (list : List ℤ) (tally : List ℕ) (numbers : ℕ) (out : Out (List Entry)) → Answers answer list tally numbers out
+    → length list ≡ numbers → 4 * countOf answer ≤ numbers
+count-within answer list tally numbers out p e =
     rw (p .answered) (counted numbers out (sym (ap length (p .listed)) ∙ e))

@@ -1,7 +1,7 @@
 -- How a text ends: the ways out of `perform` and `expand`, each with the list that it leaves.
 use mathlib.Core.Path.{_≡_, refl, sym, ap, _∙_}
 use mathlib.Core.Bool.{true, false}
-use mathlib.Core.List.{List, _++_}
+use mathlib.Core.List.{List, [], _++_}
 use mathlib.Core.Option.{Option, none, some}
 use Prim.Native.Nat.{ℕ, _-_, _*_, _/_, _<_, _≤_}
 use native.Mathlib.Omega.{arith}
@@ -21,9 +21,13 @@ use Rattle.aries.specs.declared.entry.Entry.{Entry}
 use Rattle.aries.specs.Entries.{Made}
 use Rattle.aries.specs.Reader.{settingOf}
 use Rattle.aries.specs.Judging.{lending, limits}
-use Rattle.aries.specs.Program.{freshProgram, isEnded, runFrom, perform, expand, listOf}
-use Rattle.aries.specs.Runs.{Lent, lent, entriesOfProgram, Ran}
+use Rattle.aries.specs.Program.{freshProgram, isEnded, runFrom, perform, expand, listOf, tallyFor}
+use Rattle.aries.specs.Runs.{Lent, lentBoth, over, entriesOfProgram, Ran}
+use Rattle.aries.specs.Tally.{noTally}
+use Rattle.aries.specs.Tallying.{tooWide}
 use Rattle.aries.proofs.Runs.{Done, passed-done, refused-out}
+use Rattle.aries.proofs.Tally.{tally-none}
+use Rattle.aries.proofs.Tallied.{over-tally}
 use Rattle.text.specs.declared.Cleaned.the-variants.{Stray, Dense}
 use Rattle.text.specs.Cleaning.{cleaned}
 use Rattle.tolkjirp.specs.Answers.{Answers}
@@ -32,27 +36,29 @@ use Rattle.tolkjirp.proofs.Lists.{cleared, cleared-past}
 
 -- ---- Answers
 
--- a refusal, with the list cleared
+-- a refusal, with list and tally cleared
 pub answers-refused :
-    {answer : Answer} {list : List ℤ} {number line : ℕ} {out : Out (List Entry)} (numbers : ℕ) → answer ≡ Answer.Refused number line
-    → list ≡ replicate numbers (pos 0) → out ≡ refused number line → Answers answer list numbers out
-unfolding listOf
-answers-refused numbers a l o = rw o (record { answered = a; listed = l })
+    {answer : Answer} {list : List ℤ} {tally : List ℕ} {number line : ℕ} (numbers : ℕ) → answer ≡ Answer.Refused number line
+    → list ≡ replicate numbers (pos 0) → tally ≡ noTally → Answers answer list tally numbers (refused number line)
+unfolding listOf tallyFor
+answers-refused numbers a l t = record { answered = a; listed = l; tallied = t }
 
 -- an answer to one outcome, where another is the same
-pub answers-as : {answer : Answer} {list : List ℤ} {numbers : ℕ} {out other : Out (List Entry)} → out ≡ other → Answers answer list numbers out → Answers answer list numbers other
+pub answers-as :
+    {answer : Answer} {list : List ℤ} {tally : List ℕ} {numbers : ℕ} {out other : Out (List Entry)} → out ≡ other
+    → Answers answer list tally numbers out → Answers answer list tally numbers other
 answers-as e a = rw e at a
 
 -- ---- The ways out of a performance
 
-module _ (setting : Setting) (list after : List ℤ) (text : List ℕ) (last : ℕ) where
+module _ (setting : Setting) (list after : List ℤ) (tally : List ℕ) (text : List ℕ) (last : ℕ) where
   abbrev job : Job
   job = lending setting (length list)
 
   abbrev run : Out (Made Program)
   run = runFrom (limits job) text 0 1 (lines text) (freshProgram job)
 
-  module _ {left : Program} {status : Status} (ran : Ran entriesOfProgram job status left (lent list) (lent after) 0 run) where
+  module _ {left : Program} {status : Status} (ran : Ran entriesOfProgram job status left (lentBoth list noTally) (lentBoth after tally) 0 run) where
     -- what was refused on the way
     pub perform-refused : {number line : ℕ} → status ≡ Refused number line → perform job text last ≡ refused number line
     unfolding perform
@@ -76,10 +82,10 @@ module _ (setting : Setting) (list after : List ℤ) (text : List ℕ) (last : �
 
       -- the entries, with the rest of the list cleared
       pub perform-entries :
-          (final : List ℤ) → isEnded (left .stage) ≡ true → length after ≡ length list → final ≡ cleared after (left .progress .entries * 4)
-          → Answers (Answer.Entries (left .progress .entries)) final (length list) (perform job text last)
-      unfolding perform listOf
-      perform-entries final e n l =
+          (final : List ℤ) → isEnded (left .stage) ≡ true → length after ≡ length list → length list / 4 < tooWide → final ≡ cleared after (left .progress .entries * 4)
+          → Answers (Answer.Entries (left .progress .entries)) final tally (length list) (perform job text last)
+      unfolding perform listOf tallyFor
+      perform-entries final e n short l =
           let m = made .0 in
           let f : isEnded (m .after .stage) ≡ true = rw stage-is at e in
           let o : perform job text last ≡ done (m .entries) = simp (made .1, f) in
@@ -92,7 +98,11 @@ module _ (setting : Setting) (list after : List ℤ) (text : List ℕ) (last : �
                 ∙ ap (λ (k : ℕ). cleared after (k * 4)) c
                 ∙ ap (λ (k : ℕ). take (length (m .entries) * 4) after ++ replicate (k - length (m .entries) * 4) (pos 0)) n
                 ∙ ap (λ (r : Lent). take (length (m .entries) * 4) (r .list) ++ replicate (length list - length (m .entries) * 4) (pos 0)) (ran .written m (made .1))
-                ∙ cleared-past list (m .entries) fit;
+                ∙ cleared-past (lentBoth list noTally) (m .entries) fit;
+            tallied =
+                ap (λ (r : Lent). r .tally) (ran .written m (made .1))
+                ∙ ap (λ (t : List ℕ). over (lentBoth list t) 0 (m .entries) .tally) (sym tally-none)
+                ∙ over-tally list [] (m .entries) (omega arith);
           })
 
 -- ---- The ways out of an expansion

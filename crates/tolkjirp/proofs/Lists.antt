@@ -9,7 +9,7 @@ use lib.ListN.{length, take, drop, set, replicate, length-set}
 use lib.Seq.{sets, sets-eq, append-snoc, take-at, take-all, take-suc-set}
 use Rattle.aries.specs.declared.entry.Entry.{Entry}
 use Rattle.aries.specs.Entries.{cells}
-use Rattle.aries.specs.Runs.{Lent, lent, put, over}
+use Rattle.aries.specs.Runs.{Lent, put, over}
 use Rattle.aries.proofs.Runs.{length-put, put-inside}
 
 -- ---- Entries
@@ -31,26 +31,27 @@ over-sets l k (a ∷ es) fit =
     let d : 4 * k + 1 ≡ suc (4 * k) = omega arith in
     let b : 4 * k + 2 ≡ suc (suc (4 * k)) = omega arith in
     let c : 4 * k + 3 ≡ suc (suc (suc (4 * k))) = omega arith in
-    over-sets (put l k a) (k + 1) es (omega arith) ∙ ap (λ (r : Lent). sets (r .list) (4 * (k + 1)) (cells es)) (put-inside l k a i) ∙ rw (e, d, b, c)
+    over-sets (put l k a) (k + 1) es (omega arith) ∙ ap (λ (r : List ℤ). sets r (4 * (k + 1)) (cells es)) (put-inside l k a i) ∙ rw (e, d, b, c)
 
 -- from the start of the list they are its first numbers, and the rest stays
-over-start : (l : List ℤ) (es : List Entry) → length es ≤ length l / 4 → over (lent l) 0 es .list ≡ cells es ++ drop (4 * length es) l
+over-start : (l : Lent) (es : List Entry) → length es ≤ length (l .list) / 4 → over l 0 es .list ≡ cells es ++ drop (4 * length es) (l .list)
 over-start l es fit =
     let n = length-cells es in
-    let i : 0 + length (cells es) ≤ length l = omega arith in
+    let i : 0 + length (cells es) ≤ length (l .list) = omega arith in
     let e : 0 + length (cells es) ≡ 4 * length es = omega arith in
-    over-sets (lent l) 0 es (omega arith) ∙ sets-eq (cells es) l 0 i ∙ ap (λ (k : ℕ). cells es ++ drop k l) e
+    over-sets l 0 es (omega arith) ∙ sets-eq (cells es) (l .list) 0 i ∙ ap (λ (k : ℕ). cells es ++ drop k (l .list)) e
 
 -- cleared past the entries
 pub cleared-past :
-    (l : List ℤ) (es : List Entry) → length es ≤ length l / 4
-    → take (length es * 4) (over (lent l) 0 es .list) ++ replicate (length l - length es * 4) (pos 0) ≡ cells es ++ replicate (length l - length (cells es)) (pos 0)
+    (l : Lent) (es : List Entry) → length es ≤ length (l .list) / 4
+    → take (length es * 4) (over l 0 es .list) ++ replicate (length (l .list) - length es * 4) (pos 0)
+    ≡ cells es ++ replicate (length (l .list) - length (cells es)) (pos 0)
 cleared-past l es fit =
     let n = length-cells es in
     let e : length (cells es) ≡ length es * 4 = omega arith in
-    ap (λ (r : List ℤ). take (length es * 4) r ++ replicate (length l - length es * 4) (pos 0)) (over-start l es fit)
-    ∙ ap (λ (r : List ℤ). r ++ replicate (length l - length es * 4) (pos 0)) (take-at (cells es) (drop (4 * length es) l) (length es * 4) e)
-    ∙ ap (λ (k : ℕ). cells es ++ replicate (length l - k) (pos 0)) (sym e)
+    ap (λ (r : List ℤ). take (length es * 4) r ++ replicate (length (l .list) - length es * 4) (pos 0)) (over-start l es fit)
+    ∙ ap (λ (r : List ℤ). r ++ replicate (length (l .list) - length es * 4) (pos 0)) (take-at (cells es) (drop (4 * length es) (l .list)) (length es * 4) e)
+    ∙ ap (λ (k : ℕ). cells es ++ replicate (length (l .list) - k) (pos 0)) (sym e)
 
 -- ---- Clearing, one number after the other
 

@@ -1,5 +1,6 @@
 // The function for programs in C or Rust: the answer is given as three numbers.
 use aries::answer::Answer;
+use tallies::FIGURES;
 ghost use mathlib.Core.Path.{_≡_};
 ghost use lib.ListN.{length};
 ghost use Rattle.aries.specs.Program.{expand};
@@ -16,17 +17,19 @@ fn three_numbers(answer: Answer) -> [u64; 3]
 }
 
 // Expands a program text, at the decimal point setting that a number states, into a lent list, four numbers an entry: X, Y,
-// tool and mode. What the entries leave of the list is zero, and after a refusal all of it. The answer takes the refusal's
-// number or 0, the count of entries, the refusal's line.
+// tool and mode, and a lent tally, three numbers for each of 99 tools: its hits, and the first and the last index where it
+// stands. What the entries leave of the list is zero, and after a refusal all of list and tally. The answer takes the
+// refusal's number or 0, the count of entries, the refusal's line.
 #[no_mangle]
 pub extern "C" fn tolkjirp_expand(
     setting: i32,
     text: &[u8],
     list: &mut [i32],
+    tally: &mut [u64; FIGURES],
     answer: &mut [u64; 3],
 )
-    ensures { λ _. ⌜ Exported (now (answer .exit)) (now (list .exit)) (length (now (list .entry))) (expand setting (now (text .entry)) (length (now (list .entry)))) ⌝ }
+    ensures { λ _. ⌜ Exported (now (answer .exit)) (now (list .exit)) (now (tally .exit)) (length (now (list .entry))) (expand setting (now (text .entry)) (length (now (list .entry)))) ⌝ }
 {
-    let numbers = three_numbers(crate::expand(setting, text, list));
+    let numbers = three_numbers(crate::expand(setting, text, list, tally));
     *answer = numbers;
 }

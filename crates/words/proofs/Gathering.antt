@@ -3,8 +3,8 @@
 use mathlib.Core.Path.{_≡_, refl, sym, ap, _∙_}
 use mathlib.Core.Bool.{Bool, true, false, cond}
 use mathlib.Core.List.{List, [], _∷_, _++_, append-nil}
-use mathlib.Core.Option.{Option, none, some}
-use Prim.Native.Nat.{ℕ, zero, suc, _+_, _-_, _≤_}
+use mathlib.Core.Option.{none, some}
+use Prim.Native.Nat.{ℕ, suc, _+_, _-_, _≤_}
 use native.Mathlib.Omega.{arith}
 use lib.Dec.{eqb}
 use lib.IntN.{ℤ}
@@ -14,25 +14,13 @@ use borrow.Author.Tests.{eqb-true, eqb-false, eq-eqb, ne-eqb}
 use Rattle.aries.specs.Test.{isSome}
 use Rattle.aries.specs.Words.{LetterWord, word, frontWords, formedWords, sizeOf, words}
 use Rattle.aries.specs.ByLetter.{byLetter}
+use Rattle.aries.proofs.Words.{front-none, front-some, AllWords, front-all}
 use Rattle.text.specs.Lines.{lineLength}
 use Rattle.words.specs.declared.Summary.{Summary}
 use Rattle.words.specs.Gathering.{firstLine, Gathers}
 use Rattle.words.specs.Keeping.{lettersOf, summaryOf}
 use Rattle.words.proofs.Word.{Formed, formed, WellFormed, well-formed}
 use Rattle.words.proofs.Line.{line-length, line-drop, line-word}
-
--- ---- One word
-
-front-none : (n : ℕ) (bs : List ℕ) → word bs ≡ none → frontWords n bs ≡ []
-unfolding frontWords
-front-none zero bs e = refl
-front-none (suc n) bs e = rw (e, frontWords)
-
-front-some :
-    (n : ℕ) (bs : List ℕ) (r : LetterWord) → word bs ≡ some r
-    → frontWords (suc n) bs ≡ r ∷ frontWords n (drop (r .size) bs)
-unfolding frontWords
-front-some n bs r e = rw (e, frontWords)
 
 sizes-more : (ws : List LetterWord) (r : LetterWord) → sizeOf (ws ++ r ∷ []) ≡ sizeOf ws + r .size
 sizes-more [] r = omega arith
@@ -58,19 +46,10 @@ all-formed line = some-if (eqb (sizeOf (formedWords line)) (length line)) (forme
 
 -- words that were read
 abbrev pub AllFormed : List LetterWord → Type 0
-AllFormed [] = Unit {0}
-AllFormed (r ∷ rs) = WellFormed r × AllFormed rs
+AllFormed ws = AllWords WellFormed ws
 
 pub front-formed : (n : ℕ) (bs : List ℕ) → AllFormed (frontWords n bs)
-unfolding frontWords
-front-formed zero bs = tt
-front-formed (suc n) bs = go (word bs) refl (λ r. front-formed n (drop (r .size) bs))
-  where
-    go :
-        (o : Option LetterWord) → word bs ≡ o → ((r : LetterWord) → AllFormed (frontWords n (drop (r .size) bs)))
-        → AllFormed (frontWords (suc n) bs)
-    go none e rest = rw (front-none (suc n) bs e) tt
-    go (some r) e rest = rw (front-some n bs r e) (well-formed bs r e, rest r)
+front-formed n bs = front-all WellFormed well-formed n bs
 
 -- ---- The words of a line, read in a text
 

@@ -9,10 +9,10 @@ ghost use Rattle.aries.specs.Test.{within};
 ghost use Rattle.aries.specs.Letters.{letterA};
 ghost use Rattle.aries.specs.Text.{isCapital, isDigit};
 ghost use Rattle.aries.specs.Words.{digits, isSign, word};
-ghost use Rattle.aries.specs.ByLetter.{hasRow, patternCodes, measures, isPlain};
+ghost use Rattle.aries.specs.ByLetter.{at, hasRow, patternCodes, measures, isPlain};
 ghost use Rattle.text.specs.Lines.{lineLength};
 ghost use Rattle.words.specs.Gathering.{firstLine, Gathers};
-ghost use Rattle.words.specs.Keeping.{wordIn, formMark, withG, withNumber, withLetter};
+ghost use Rattle.words.specs.Keeping.{wordIn, lettersOf, formMark, withG, withNumber, withLetter};
 ghost use Rattle.words.specs.Reading.{held, noNumber, number, noReading, readingOf, readingAt};
 use aries::word::Word;
 use signed::size;
@@ -370,4 +370,15 @@ pub fn read_words(
         let number = word.number;
         numbers[index] = number;
     }
+}
+
+// The word with a letter, from the two lists of a block.
+pub fn word_at(forms: &[u8; 26], numbers: &[i32; 26], letter: u8) -> Word
+    requires { ⌜ (65 ≤ letter) × (letter ≤ 90) ⌝ }
+    ensures { λ r. ⌜ r ≡ at (lettersOf (now (forms .entry)) (now (numbers .entry))) letter ⌝ }
+{
+    let i = (letter - b'A') as usize;
+    let form = forms[i];
+    let number = numbers[i];
+    word_in(form, number)
 }

@@ -16,7 +16,7 @@ use Rattle.aries.specs.Outcome.{Out}
 use Rattle.aries.specs.Entries.{Made, andThen}
 use Rattle.aries.specs.Judging.{Judging, limits}
 use Rattle.aries.specs.Macros.{Body, part, Bodies, bodiesOf, Calls, runLines, call, runBody}
-use Rattle.aries.specs.Runs.{lent, entriesMade}
+use Rattle.aries.specs.Runs.{lentBoth, entriesMade}
 use Rattle.aries.specs.Text.{lines}
 use Rattle.aries.proofs.Runs.{Leads, leads-start, leads-as, leads-on, leads-out, leads-end, ran-refused, status-as, passed-as}
 use Rattle.aries.proofs.Carried.{carried-refused}
@@ -46,25 +46,25 @@ use Rattle.stretches.proofs.run_stretch.Reads as run-stretch-reads
 use Rattle.bodies.proofs.+run_body+run_rest.{statement}
 use Rattle.bodies.proofs.+run_body+run_rest.Tie.{close}
 
-abbrev μ-run-body : Measures 2 run-body-kinds.ps ℕ
+abbrev μ-run-body : Measures 3 run-body-kinds.ps ℕ
 μ-run-body κs a = 2 * a .0
 
-abbrev μ-run-rest : Measures 3 run-rest-kinds.ps ℕ
+abbrev μ-run-rest : Measures 4 run-rest-kinds.ps ℕ
 μ-run-rest κs a = 2 * a .0 + 1
 
-abbrev run-body-at : ℕ → In 2 run-body-kinds.ps
-run-body-at t = and 2 run-body-kinds.ps (is 2 run-body-kinds.ps μ-run-body t) run-body.Pre
+abbrev run-body-at : ℕ → In 3 run-body-kinds.ps
+run-body-at t = and 3 run-body-kinds.ps (is 3 run-body-kinds.ps μ-run-body t) run-body.Pre
 
-abbrev run-body-below : ℕ → In 2 run-body-kinds.ps
+abbrev run-body-below : ℕ → In 3 run-body-kinds.ps
 run-body-below t =
-    and 2 run-body-kinds.ps (falls 2 run-body-kinds.ps _<_ μ-run-body t) run-body.Pre
+    and 3 run-body-kinds.ps (falls 3 run-body-kinds.ps _<_ μ-run-body t) run-body.Pre
 
-abbrev run-rest-at : ℕ → In 3 run-rest-kinds.ps
-run-rest-at t = and 3 run-rest-kinds.ps (is 3 run-rest-kinds.ps μ-run-rest t) run-rest.Pre
+abbrev run-rest-at : ℕ → In 4 run-rest-kinds.ps
+run-rest-at t = and 4 run-rest-kinds.ps (is 4 run-rest-kinds.ps μ-run-rest t) run-rest.Pre
 
-abbrev run-rest-below : ℕ → In 3 run-rest-kinds.ps
+abbrev run-rest-below : ℕ → In 4 run-rest-kinds.ps
 run-rest-below t =
-    and 3 run-rest-kinds.ps (falls 3 run-rest-kinds.ps _<_ μ-run-rest t) run-rest.Pre
+    and 4 run-rest-kinds.ps (falls 4 run-rest-kinds.ps _<_ μ-run-rest t) run-rest.Pre
 
 -- ---- The block runner
 
@@ -83,16 +83,16 @@ rest-claims t = (
 )
 
 abbrev Inv-loop : run-rest-lts.InvT-loop
-Inv-loop depth list₀ text body macros frame now₀ sequel₀ list now sequel =
+Inv-loop depth list₀ tally₀ text body macros frame now₀ sequel₀ list tally now sequel =
     (RestFits body sequel)
     × (length list ≡ length list₀)
-    × Leads entriesMade (frame .job) (lent list) (now .entries)
+    × Leads entriesMade (frame .job) (lentBoth list tally) (now .entries)
     (rest (limits (frame .job)) (call (limits (frame .job)) (bodiesOf text macros) depth) frame body sequel now)
-    (lent list₀) (now₀ .entries)
+    (lentBoth list₀ tally₀) (now₀ .entries)
     (rest (limits (frame .job)) (call (limits (frame .job)) (bodiesOf text macros) depth) frame body sequel₀ now₀)
 
 abbrev μ-loop : run-rest-lts.MeasureT-loop
-μ-loop depth list₀ text body macros frame now₀ sequel₀ list now sequel = restSize body sequel
+μ-loop depth list₀ tally₀ text body macros frame now₀ sequel₀ list tally now sequel = restSize body sequel
 
 module _ (t : ℕ) where
   loop-holds : run-rest-lts.Need-loop-holds (rest-claims t) (run-rest-at t) run-rest.Post Inv-loop μ-loop
@@ -115,10 +115,10 @@ module _ (t : ℕ) where
     rest-calls = call rest-judging (bodiesOf (start-of .args .text .now) (start-of .args .macros)) (start-of .args .depth)
 
     -- what is left to do, by the block that the last stretch ended at
-    abbrev Left : List ℤ → Progress → Out (Made Progress) → Type 0
-    Left list g out = Leads entriesMade (rest-frame .job) (lent list) (g .entries) out (lent (start-of .args .list .now)) (start-of .args .progress .entries) (rest rest-judging rest-calls rest-frame rest-body (start-of .args .from) (start-of .args .progress))
+    abbrev Left : List ℤ → List ℕ → Progress → Out (Made Progress) → Type 0
+    Left list tally g out = Leads entriesMade (rest-frame .job) (lentBoth list tally) (g .entries) out (lentBoth (start-of .args .list .now) (start-of .args .tally .now)) (start-of .args .progress .entries) (rest rest-judging rest-calls rest-frame rest-body (start-of .args .from) (start-of .args .progress))
 
-    left-at : (sequel : Sequel) → l .loop .sequel ≡ sequel → Left (l .loop .list) (l .loop .now) (rest rest-judging rest-calls rest-frame rest-body sequel (l .loop .now))
+    left-at : (sequel : Sequel) → l .loop .sequel ≡ sequel → Left (l .loop .list) (l .loop .tally) (l .loop .now) (rest rest-judging rest-calls rest-frame rest-body sequel (l .loop .now))
     left-at sequel e = leads-as (ap (λ (x : Sequel). rest rest-judging rest-calls rest-frame rest-body x (l .loop .now)) e) (l .loop .inv .2)
 
   rest-same-length : run-rest-lts.Need-same-length (rest-claims t) (run-rest-at t) run-rest.Post Inv-loop μ-loop
@@ -137,26 +137,26 @@ module _ (t : ℕ) where
 
   run-body-requires : run-rest-lts.Need-run-body-requires (rest-claims t) (run-rest-at t) run-rest.Post Inv-loop μ-loop
   run-body-requires c κs =
-      let l = c .before .before .before .before in
+      let l = c .before .before .before .before .before in
       let m : 2 * start-of l .args .depth + 1 ≡ t = start-of l .pre .0 in
       (omega arith, tt)
 
   -- the call is carried out
   module _ (b : run-rest-lts.After-run-body (rest-claims t) (run-rest-at t) run-rest.Post Inv-loop μ-loop) where
     abbrev at : run-rest-lts.At-loop (rest-claims t) (run-rest-at t) run-rest.Post Inv-loop μ-loop
-    at = b .before .before .before .before .before
+    at = b .before .before .before .before .before .before
 
     abbrev number : ℕ
-    number = b .before .before .before .sequel2 .given .0 .0
+    number = b .before .before .before .before .sequel2 .given .0 .0
 
     abbrev end : ℕ
-    end = b .before .before .before .sequel2 .given .0 .1 .0
+    end = b .before .before .before .before .sequel2 .given .0 .1 .0
 
     abbrev place : ℕ
-    place = b .before .before .before .sequel2 .given .0 .1 .1 .0
+    place = b .before .before .before .before .sequel2 .given .0 .1 .1 .0
 
     is-call : at .loop .sequel ≡ Sequel.Call number end place
-    is-call = b .before .before .before .sequel2 .given .1
+    is-call = b .before .before .before .before .sequel2 .given .1
 
     -- the lines behind it
     abbrev behind : Progress → Out (Made Progress)
@@ -181,12 +181,12 @@ module _ (t : ℕ) where
   rest-look-ahead-requires c κs = fits (c .before .before .before)
 
   rest-run-stretch-requires : run-rest-lts.Need-run-stretch-requires (rest-claims t) (run-rest-at t) run-rest.Post Inv-loop μ-loop
-  rest-run-stretch-requires c κs = (fits (c .before .before .before .before .before), c .before .look-ahead .ensures)
+  rest-run-stretch-requires c κs = (fits (c .before .before .before .before .before .before), c .before .before .look-ahead .ensures)
 
   -- the next stretch is carried out
   module _ (s : run-rest-lts.After-run-stretch (rest-claims t) (run-rest-at t) run-rest.Post Inv-loop μ-loop) where
     abbrev called-at : run-rest-lts.After-run-body (rest-claims t) (run-rest-at t) run-rest.Post Inv-loop μ-loop
-    called-at = s .before .before .before .before .before .before
+    called-at = s .before .before .before .before .before .before .before
 
     abbrev here : run-rest-lts.At-loop (rest-claims t) (run-rest-at t) run-rest.Post Inv-loop μ-loop
     here = at called-at
@@ -197,10 +197,10 @@ module _ (t : ℕ) where
     abbrev next : Stretched
     next = stretch (rest-judging here) (rest-frame here) (end called-at) (place called-at) (lines (drop (end called-at) (rest-body here))) after-call
 
-    left-behind : Left here (called-at .run-body .last .1 .0) after-call (andThen (next .made) (rest (rest-judging here) (rest-calls here) (rest-frame here) (rest-body here) (next .sequel)))
+    left-behind : Left here (called-at .run-body .last .1 .0) (called-at .run-body .last .1 .1 .0) after-call (andThen (next .made) (rest (rest-judging here) (rest-calls here) (rest-frame here) (rest-body here) (next .sequel)))
     left-behind =
         leads-as (lines-stretched (rest-judging here) (rest-calls here) (rest-frame here) (rest-body here) (end called-at) (place called-at) after-call)
-        (leads-on (rest-calls here (rest-frame here) (number called-at) (place called-at) (here .loop .now)) (behind called-at) (passed-as (s .before .before .before .enum-told3 .given .1) (called-at .run-body .ensures))
+        (leads-on (rest-calls here (rest-frame here) (number called-at) (place called-at) (here .loop .now)) (behind called-at) (passed-as (s .before .before .before .before .enum-told3 .given .1) (called-at .run-body .ensures))
         (left-at here (Sequel.Call (number called-at) (end called-at) (place called-at)) (is-call called-at)))
 
     next-kept : length (s .run-stretch .last .0) ≡ length (start-of here .args .list .now)
@@ -257,7 +257,7 @@ body-claims t = (
 )
 
 module _ (t : ℕ) where
-  -- what was handed in, the store as t6
+  -- what was handed in, the store as t7
   abbrev handed : run-body-lts.After-find-in (body-claims t) (run-body-at t) run-body.Post → run-body-lts.Start (body-claims t) (run-body-at t) run-body.Post
   handed f = f .before .before .before .before .before .before
 
@@ -266,8 +266,8 @@ module _ (t : ℕ) where
       let f = c .before .before .before in
       let a = handed f .args in
       let found = sym (f .find-in .ensures) ∙ c .before .enum-told .given .1 in
-      carried-refused (a .frame) (λ j. call j (bodiesOf (a .text .now) (a .t6)) (a .depth) (a .frame) (a .number) (a .line)) (c .refused .ensures)
-      (call-missing (limits (a .frame .job)) (bodiesOf (a .text .now) (a .t6)) (a .frame) (a .number) (a .line) (a .progress) (a .depth) (body-missing (a .text .now) (a .t6) (a .number) found))
+      carried-refused (a .frame) (λ j. call j (bodiesOf (a .text .now) (a .t7)) (a .depth) (a .frame) (a .number) (a .line)) (c .refused .ensures)
+      (call-missing (limits (a .frame .job)) (bodiesOf (a .text .now) (a .t7)) (a .frame) (a .number) (a .line) (a .progress) (a .depth) (body-missing (a .text .now) (a .t7) (a .number) found))
 
   -- the body is found
   module _ (k : run-body-lts.After-known-told (body-claims t) (run-body-at t) run-body.Post) where
@@ -284,13 +284,13 @@ module _ (t : ℕ) where
     first = k .before .found .given .0 .1 .1 .0
 
     abbrev stored : Bodies
-    stored = bodiesOf (called .args .text .now) (called .args .t6)
+    stored = bodiesOf (called .args .text .now) (called .args .t7)
 
     abbrev found : Body
     found = record { line = first; bytes = part (called .args .text .now) start sequel }
 
     is-stored : stored (called .args .number) ≡ some found
-    is-stored = body-found (called .args .text .now) (called .args .t6) (called .args .number) start sequel first (sym (k .before .before .before .find-in .ensures) ∙ k .before .found .given .1)
+    is-stored = body-found (called .args .text .now) (called .args .t7) (called .args .number) start sequel first (sym (k .before .before .before .find-in .ensures) ∙ k .before .found .given .1)
 
   body-returns-2 : run-body-lts.Need-returns-2 (body-claims t) (run-body-at t) run-body.Post
   body-returns-2 c =
@@ -368,7 +368,7 @@ module _ (t : ℕ) where
   look-ahead-requires c κs = body-fits (c .before)
 
   run-stretch-requires : run-body-lts.Need-run-stretch-requires (body-claims t) (run-body-at t) run-body.Post
-  run-stretch-requires c κs = (body-fits (c .before .before .before), c .before .look-ahead .ensures)
+  run-stretch-requires c κs = (body-fits (c .before .before .before .before), c .before .before .look-ahead .ensures)
 
   -- its first stretch is carried out, and whether something follows is known
   module _ (e : run-body-lts.After-is-end (body-claims t) (run-body-at t) run-body.Post) where
@@ -376,7 +376,7 @@ module _ (t : ℕ) where
     done = e .before .before
 
     abbrev at-part : run-body-lts.After-clip2 (body-claims t) (run-body-at t) run-body.Post
-    at-part = done .before .before .before .before
+    at-part = done .before .before .before .before .before
 
   body-returns-3 : run-body-lts.Need-returns-3 (body-claims t) (run-body-at t) run-body.Post
   body-returns-3 c =
@@ -389,16 +389,16 @@ module _ (t : ℕ) where
 
   run-rest-requires : run-body-lts.Need-run-rest-requires (body-claims t) (run-body-at t) run-body.Post
   run-rest-requires c κs =
-      let e = c .before .before in
+      let e = c .before .before .before in
       let x = at-part e in
       let m : 2 * called (at-body x) .args .depth ≡ t = called (at-body x) .pre .0 in
       (omega (arith, opens x), left-fits (further x) (body x) 0 (first (at-body x)) (done e .run-stretch .ensures) (body-fits x))
 
   body-returns-4 : run-body-lts.Need-returns-4 (body-claims t) (run-body-at t) run-body.Post
   body-returns-4 c =
-      let e = c .before .before .before .before in
+      let e = c .before .before .before .before .before in
       let x = at-part e in
-      rw (is-body x) (lines-left (further x) (body x) 0 (first (at-body x)) (done e .run-stretch .ensures) (sym (e .is-end .ensures) ∙ c .before .before .before .if2 .left) _ _ _ (c .before .run-rest .ensures))
+      rw (is-body x) (lines-left (further x) (body x) 0 (first (at-body x)) (done e .run-stretch .ensures) (sym (e .is-end .ensures) ∙ c .before .before .before .before .if2 .left) _ _ _ (c .before .run-rest .ensures))
 
 pub +run-body+run-rest-spec : {M : Type 1} → statement M
 +run-body+run-rest-spec =

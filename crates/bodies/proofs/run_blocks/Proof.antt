@@ -16,7 +16,7 @@ module _ (e : tie.After-is-end) where
   done = e .before .before
 
   abbrev entry : tie.Start
-  entry = done .before .before .before .before .before
+  entry = done .before .before .before .before .before .before
 
   abbrev body : List ℕ
   body = entry .args .body .now
@@ -34,13 +34,13 @@ returns c =
 
 run-rest-requires : tie.Need-run-rest-requires
 run-rest-requires c κs =
-    let e = c .before .before in
+    let e = c .before .before .before in
     left-fits (calls e) (body e) (opening e .at) (opening e .line) (done e .run-stretch .ensures) (entry e .pre)
 
 returns-2 : tie.Need-returns-2
 returns-2 c =
-    let e = c .before .before .before .before in
-    lines-left (calls e) (body e) (opening e .at) (opening e .line) (done e .run-stretch .ensures) (sym (e .is-end .ensures) ∙ c .before .before .before .if1 .left) _ _ _ (c .before .run-rest .ensures)
+    let e = c .before .before .before .before .before in
+    lines-left (calls e) (body e) (opening e .at) (opening e .line) (done e .run-stretch .ensures) (sym (e .is-end .ensures) ∙ c .before .before .before .before .if1 .left) _ _ _ (c .before .run-rest .ensures)
 
 pub run-blocks-spec : {M : Type 1} → statement M
 run-blocks-spec =

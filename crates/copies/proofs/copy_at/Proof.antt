@@ -13,7 +13,7 @@ use Rattle.aries.specs.Macros.{bodiesOf, Calls, call, mostCalls, runBody}
 use Rattle.aries.specs.Moves.{withState}
 use Rattle.aries.specs.Reader.{readerOf}
 use Rattle.aries.specs.WidePoints.{pointOf}
-use Rattle.aries.specs.Runs.{Lent, lent, Carried}
+use Rattle.aries.specs.Runs.{Lent, lentBoth, Carried}
 use Rattle.aries.specs.Setup.{frameAt}
 use Rattle.aries.proofs.Carried.{carried-refused}
 use Rattle.stretches.specs.Lookahead.{ahead}
@@ -50,7 +50,7 @@ module _ (e : tie.After-is-end) where
   stretched = e .before .before
 
   abbrev begins : tie.After-copy-start
-  begins = stretched .before .before
+  begins = stretched .before .before .before
 
   abbrev judged : tie.After-located2
   judged = begins .before .before .before
@@ -68,7 +68,7 @@ module _ (e : tie.After-is-end) where
   calls = call (limits (here .job)) (bodiesOf (entry .args .text .now) (entry .args .macros)) (mostCalls - 1)
 
   -- the part carried out here is the copy
-  is-copy : {r : Outcome} {after : Lent} → Carried r here (lent (entry .args .list .now)) after begun (λ j. parts entry j here) → Carried r (entry .args .frame) (lent (entry .args .list .now)) after (counts entry) (copied entry)
+  is-copy : {r : Outcome} {after : Lent} → Carried r here (lentBoth (entry .args .list .now) (entry .args .tally .now)) after begun (λ j. parts entry j here) → Carried r (entry .args .frame) (lentBoth (entry .args .list .now) (entry .args .tally .now)) after (counts entry) (copied entry)
   is-copy h =
       let p = pointOf (entry .args .place) in
       let q = at-passed (near p) p (sym (judged .before .before .located .ensures) ∙ judged .located2 .given .1) in
@@ -80,7 +80,7 @@ module _ (e : tie.After-is-end) where
 -- the frame of the copy has blocks read as the part's has
 run-stretch-requires : tie.Need-run-stretch-requires
 run-stretch-requires c κs =
-    let at = c .before .before in
+    let at = c .before .before .before in
     let place = at .before .before in
     let s = place .before .before .before .before .before in
     (s .pre .0, s .pre .1 ∙ ap (λ (f : Frame). ahead (readerOf f) (s .args .body .now) 0 (s .args .first)) (sym (at .at .ensures)))
@@ -94,16 +94,16 @@ returns-2 c =
 
 run-rest-requires : tie.Need-run-rest-requires
 run-rest-requires c κs =
-    let e = c .before .before in
+    let e = c .before .before .before in
     let a = entry e .args in
     left-fits (calls e) (a .body .now) 0 (a .first) (stretched e .run-stretch .ensures) (entry e .pre .0)
 
 returns-3 : tie.Need-returns-3
 unfolding runBody
 returns-3 c =
-    let e = c .before .before .before .before in
+    let e = c .before .before .before .before .before in
     let a = entry e .args in
-    is-copy e (lines-left (calls e) (a .body .now) 0 (a .first) (stretched e .run-stretch .ensures) (sym (e .is-end .ensures) ∙ c .before .before .before .if1 .left) _ _ _ (c .before .run-rest .ensures))
+    is-copy e (lines-left (calls e) (a .body .now) 0 (a .first) (stretched e .run-stretch .ensures) (sym (e .is-end .ensures) ∙ c .before .before .before .before .if1 .left) _ _ _ (c .before .run-rest .ensures))
 
 pub copy-at-spec : {M : Type 1} → statement M
 copy-at-spec =

@@ -16,7 +16,7 @@ use Rattle.aries.specs.Entries.{Made, andThen}
 use Rattle.aries.specs.Judging.{limits}
 use Rattle.aries.specs.Layouts.{Part, copyCount, copyPlace, partOf, copy, copyAll}
 use Rattle.aries.specs.Macros.{bodiesOf}
-use Rattle.aries.specs.Runs.{entriesMade, lent, Ran}
+use Rattle.aries.specs.Runs.{entriesMade, lentBoth, Ran}
 use Rattle.aries.proofs.Runs.{Leads, leads-start, leads-as, leads-on, leads-out, leads-end}
 use Rattle.lanes.specs.Cursors.{cursorAt}
 use Rattle.lanes.proofs.Cursors.{at-zero}
@@ -32,16 +32,16 @@ left text body first macros frame line layout copies found n m g =
     copyAll (limits (frame .job)) (partOf (limits (frame .job)) (bodiesOf text macros) (bodyOf first body)) frame line found (copyPlace (frame .origin) layout copies) n m g
 
 abbrev Inv-loop : tie.InvT-loop
-Inv-loop list₀ text body first start macros frame line layout copies origin found last count now₀ cursor₀ m₀ list now cursor m =
+Inv-loop list₀ tally₀ text body first start macros frame line layout copies origin found last count now₀ cursor₀ m₀ list tally now cursor m =
     (m ≤ count)
     × (cursor ≡ cursorAt last m)
     × (length list ≡ length list₀)
     × Leads entriesMade (frame .job)
-    (lent list) (now .entries) (left text body first macros frame line layout copies found (copyCount layout - m) m now)
-    (lent list₀) (now₀ .entries) (left text body first macros frame line layout copies found (copyCount layout) 0 now₀)
+    (lentBoth list tally) (now .entries) (left text body first macros frame line layout copies found (copyCount layout - m) m now)
+    (lentBoth list₀ tally₀) (now₀ .entries) (left text body first macros frame line layout copies found (copyCount layout) 0 now₀)
 
 abbrev μ-loop : tie.MeasureT-loop
-μ-loop list₀ text body first start macros frame line layout copies origin found last count now₀ cursor₀ m₀ list now cursor m = count - m
+μ-loop list₀ tally₀ text body first start macros frame line layout copies origin found last count now₀ cursor₀ m₀ list tally now cursor m = count - m
 
 -- what was handed in
 abbrev entry : (c : tie.At-loop Inv-loop μ-loop) → tie.Start Inv-loop μ-loop
@@ -49,7 +49,7 @@ entry c = c .before .before .before .before .before .before .before .before
 
 -- steps are 16 bits wide
 steps-fit : (c : tie.Start Inv-loop μ-loop) → (c .args .layout .steps .x ≤ 65535) × (c .args .layout .steps .y ≤ 65535)
-steps-fit c = let g = c .good .1 .1 .1 .1 .1 .1 .1 .1 .0 in omega (arith, g)
+steps-fit c = let g = c .good .1 .1 .1 .1 .1 .1 .1 .1 .1 .0 in omega (arith, g)
 
 -- the part
 abbrev part : tie.Start Inv-loop μ-loop → Part
@@ -72,20 +72,20 @@ more : (c : tie.In-loop Inv-loop μ-loop) → c .before .loop .m < copyCount (en
 more c = omega (arith, c .before .before .before .copy-count .ensures, c .loop-test .taken)
 
 -- it is made
-copied : (c : tie.After-copy-next Inv-loop μ-loop) → let t = c .before .before .before .before in
-    Ran entriesMade (entry t .args .frame .job) (c .copy-next .result .status) (c .copy-next .result .progress) (lent (t .loop .list)) (lent (c .copy-next .last .0)) (t .loop .now .entries) (one (entry t) (t .loop .m) (t .loop .now))
+copied : (c : tie.After-copy-next Inv-loop μ-loop) → let t = c .before .before .before .before .before in
+    Ran entriesMade (entry t .args .frame .job) (c .copy-next .result .status) (c .copy-next .result .progress) (lentBoth (t .loop .list) (t .loop .tally)) (lentBoth (c .copy-next .last .0) (c .copy-next .last .1 .0)) (t .loop .now .entries) (one (entry t) (t .loop .m) (t .loop .now))
 copied c =
-    let t = c .before .before .before .before in
+    let t = c .before .before .before .before .before in
     let l = t .before .before .before .lane-end in
     let a = entry t .args in
-    let p = c .before .before .copy-place .ensures ∙ place-here (a .layout) (a .copies) (l .result) (t .loop .m) (t .loop .cursor) (l .ensures) (t .loop .inv .1) (a .frame .origin) in
+    let p = c .before .before .before .copy-place .ensures ∙ place-here (a .layout) (a .copies) (l .result) (t .loop .m) (t .loop .cursor) (l .ensures) (t .loop .inv .1) (a .frame .origin) in
     rw p at (c .copy-next .ensures)
 
 -- and the rest follows
 leads : (c : tie.In-loop Inv-loop μ-loop) → let t = c .before in let m = t .loop .m in let n = copyCount (entry t .args .layout) in
     Leads entriesMade (entry t .args .frame .job)
-    (lent (t .loop .list)) (t .loop .now .entries) (andThen (one (entry t) m (t .loop .now)) (rest (entry t) (n - (m + 1)) (m + 1)))
-    (lent (entry t .args .list .now)) (entry t .args .progress .entries) (rest (entry t) n 0 (entry t .args .progress))
+    (lentBoth (t .loop .list) (t .loop .tally)) (t .loop .now .entries) (andThen (one (entry t) m (t .loop .now)) (rest (entry t) (n - (m + 1)) (m + 1)))
+    (lentBoth (entry t .args .list .now) (entry t .args .tally .now)) (entry t .args .progress .entries) (rest (entry t) n 0 (entry t .args .progress))
 leads c =
     let t = c .before in
     let a = entry t .args in
@@ -115,16 +115,16 @@ enum-told c = search needs
 same-length : tie.Need-same-length Inv-loop μ-loop
 same-length c =
     let r = c .before .before .before in
-    r .copy-next .kept .0 ∙ r .before .before .before .before .loop .inv .2
+    r .copy-next .kept .0 ∙ r .before .before .before .before .before .loop .inv .2
 
 returns : tie.Need-returns Inv-loop μ-loop
 returns c =
     let r = c .before .before .before in
-    rw (c .enum-told .given .1) (leads-out _ (rw (c .enum-told .given .1) at (copied r)) (leads (r .before .before .before)))
+    rw (c .enum-told .given .1) (leads-out _ (rw (c .enum-told .given .1) at (copied r)) (leads (r .before .before .before .before)))
 
 next-requires : tie.Need-next-requires Inv-loop μ-loop
 next-requires c κs =
-    let t = c .before .before .before .before .before .before .before in
+    let t = c .before .before .before .before .before .before .before .before in
     let p = t .before .loop in
     let a = entry (t .before) .args in
     let l = t .before .before .before .before .lane-end in
@@ -133,17 +133,17 @@ next-requires c κs =
 
 add-m : tie.Need-add-m Inv-loop μ-loop
 add-m c =
-    let t = c .before .before .before .before .before .before .before .before in
+    let t = c .before .before .before .before .before .before .before .before .before in
     let f = steps-fit (entry (t .before)) in
     record { fits = omega (arith, t .loop-test .taken, t .before .before .before .copy-count .ensures, count-fits _ _ (f .0) (f .1)) }
 
 loop-less : tie.Need-loop-less Inv-loop μ-loop
-loop-less c = let t = c .before .before .before .before .before .before .before .before in omega (arith, t .loop-test .taken)
+loop-less c = let t = c .before .before .before .before .before .before .before .before .before in omega (arith, t .loop-test .taken)
 
 loop-again : tie.Need-loop-again Inv-loop μ-loop
 loop-again c =
     let r = c .before .before .before .before .before in
-    let t = r .before .before .before in
+    let t = r .before .before .before .before in
     let p = t .before .loop in
     let a = entry (t .before) .args in
     let l = t .before .before .before .before .lane-end in (

@@ -4,7 +4,7 @@ use mathlib.Core.Path.{sym, _∙_}
 use Rattle.aries.specs.Judging.{limits}
 use Rattle.aries.specs.Reader.{readerOf}
 use Rattle.aries.specs.Macros.{bodiesOf}
-use Rattle.aries.specs.Runs.{lent}
+use Rattle.aries.specs.Runs.{lentBoth}
 use Rattle.copies.proofs.CopyPart.{part-blank}
 use Rattle.copies.proofs.copy_over.Statement.{statement}
 use Rattle.copies.proofs.copy_over.Tie as tie
@@ -17,7 +17,7 @@ returns c =
     let o = c .before .before .before in
     let a = o .before .before .before .args in
     rw (part-blank (readerOf (a .frame)) (limits (a .frame .job)) (bodiesOf (a .text .now) (a .macros)) (a .first) (a .body .now) (sym (o .look-ahead .ensures) ∙ c .before .enum-told .given .1))
-    (c .copy-blank .ensures (lent (a .list .now)))
+    (c .copy-blank .ensures (lentBoth (a .list .now) (a .tally .now)))
 
 copy-body-requires : tie.Need-copy-body-requires
 copy-body-requires c κs = search needs

@@ -79,13 +79,13 @@ inside c =
     (omega (arith, c .clip2 .ensures, clipped-within (x .0) (c .before .clip .result)), omega (arith, c .before .clip .ensures, clipped-within (x .1 .0) (length t)))
 
 sub-copy-over : tie.Need-sub-copy-over
-sub-copy-over c = inside (c .before .before) .0
+sub-copy-over c = inside (c .before .before .before) .0
 
 part-copy-over-start : tie.Need-part-copy-over-start
-part-copy-over-start c = inside (c .before .before) .0
+part-copy-over-start c = inside (c .before .before .before) .0
 
 part-copy-over-end : tie.Need-part-copy-over-end
-part-copy-over-end c = inside (c .before .before) .1
+part-copy-over-end c = inside (c .before .before .before) .1
 
 copy-over-requires : tie.Need-copy-over-requires
 copy-over-requires c κs = search needs
@@ -95,7 +95,7 @@ same-length c = search needs
 
 returns-3 : tie.Need-returns-3
 returns-3 c =
-    let n = c .before .before .before .before .before in
+    let n = c .before .before .before .before .before .before in
     let e = n .before in
     let k = found e in
     let a = entry e .args in
@@ -103,7 +103,7 @@ returns-3 c =
     let t = a .text .now in
     let clip = ap₂ (λ (e s : ℕ). take (e - s) (drop s t)) (e .clip .ensures) (n .clip2 .ensures ∙ ap (clipped (x .0)) (e .clip .ensures)) ∙ part-clipped t (x .0) (x .1 .0) in
     rw (part-copied (limits (a .setup .job)) t (a .macros) (a .setup) (a .line) (a .copies) (a .progress) (is-found k) (e .before .before .sheet .given .1))
-    (rw (clip, c .before .before .before .before .frame .ensures) at (c .before .copy-over .ensures))
+    (rw (clip, c .before .before .before .before .before .frame .ensures) at (c .before .copy-over .ensures))
 
 pub copy-part-spec : {M : Type 1} → statement M
 copy-part-spec =

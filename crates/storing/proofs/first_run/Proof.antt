@@ -22,13 +22,13 @@ returns c =
     (sym (r .runs-first .ensures) ∙ not-true _ (c .before .if1 .taken)))
 
 run-blocks-requires : tie.Need-run-blocks-requires
-run-blocks-requires c κs = let e = c .before .before .before .before .before .before in omega (arith, e .good)
+run-blocks-requires c κs = let e = c .before .before .before .before .before .before .before in omega (arith, e .good)
 
 returns-2 : tie.Need-returns-2
 returns-2 c =
     let r = c .before in
     let f = r .before in
-    let n = f .before .before in
+    let n = f .before .before .before in
     let t = n .before in
     let a = t .before .before .before .args in
     let b : Body = record { line = a .first; bytes = a .body .now } in

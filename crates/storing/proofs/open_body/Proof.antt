@@ -54,7 +54,7 @@ returns : tie.Need-returns
 returns c =
     let b = c .before .before in
     let a = start b .args in
-    rw (open-unclosed (limits (a .setup .job)) (a .text .now) (a .number) (a .start) (a .line) (lines (drop (a .start) (a .text .now))) (a .setup) (withStored (a .macros) (a .progress))
+    rw (open-unclosed (limits (a .setup .job)) (a .text .now) (a .number) (a .start) (a .line) (lines (drop (a .start) (a .text .now))) (a .setup) (withStored (a .stored) (a .progress))
     (size-missing _ (sym (c .enum-told .given .1) ∙ answers b .same))) ran-refused
 
 returns-2 : tie.Need-returns-2
@@ -62,19 +62,19 @@ returns-2 c =
     let b = c .before .before .before in
     let m = c .before .before .storing in
     let a = entry b .args in
-    rw (open-full (limits (a .setup .job)) (a .text .now) (a .number) (a .start) (a .line) (lines (drop (a .start) (a .text .now))) (a .setup) (withStored (a .macros) (a .progress))
+    rw (open-full (limits (a .setup .job)) (a .text .now) (a .number) (a .start) (a .line) (lines (drop (a .start) (a .text .now))) (a .setup) (withStored (a .stored) (a .progress))
     (m .result) (size b) (found b) (m .ensures) (omega (arith, c .before .characters .ensures, c .if1 .taken))) ran-refused
 
 returns-3 : tie.Need-returns-3
 returns-3 c =
     let r = c .before .before in
-    let k = r .before .before .before .before in
+    let k = r .before .before .before .before .before in
     let b = k .before .before in
     let m = k .before .storing in
     let a = entry b .args in
-    rw (open-stored (limits (a .setup .job)) (a .text .now) (a .number) (a .start) (a .line) (lines (drop (a .start) (a .text .now))) (a .setup) (withStored (a .macros) (a .progress))
-    (m .result) (size b) (found b) (m .ensures) (omega (arith, k .characters .ensures, r .before .before .before .if1 .left)))
-    (ran-map (withStored (m .result)) (λ g. refl) (firstRun (limits (a .setup .job)) (a .text .now) (a .macros) (a .number) (record { line = a .line + 1; bytes = take (a .start + size b - a .start) (drop (a .start) (a .text .now)) }) (a .setup) (a .progress))
+    rw (open-stored (limits (a .setup .job)) (a .text .now) (a .number) (a .start) (a .line) (lines (drop (a .start) (a .text .now))) (a .setup) (withStored (a .stored) (a .progress))
+    (m .result) (size b) (found b) (m .ensures) (omega (arith, k .characters .ensures, r .before .before .before .before .if1 .left)))
+    (ran-map (withStored (m .result)) (λ g. refl) (firstRun (limits (a .setup .job)) (a .text .now) (a .stored) (a .number) (record { line = a .line + 1; bytes = take (a .start + size b - a .start) (drop (a .start) (a .text .now)) }) (a .setup) (a .progress))
     (r .first-run .ensures))
 
 pub open-body-spec : {M : Type 1} → statement M

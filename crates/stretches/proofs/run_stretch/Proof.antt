@@ -25,7 +25,7 @@ use Rattle.aries.specs.Judging.{Judging, limits}
 use Rattle.aries.specs.Letters.{letterV}
 use Rattle.aries.specs.Reader.{readerOf}
 use Rattle.aries.specs.Macros.{carryDirect, begun}
-use Rattle.aries.specs.Runs.{lent, Ran, entriesMade}
+use Rattle.aries.specs.Runs.{lentBoth, Ran, entriesMade}
 use Rattle.aries.specs.Text.{lines}
 use Rattle.text.proofs.Lines.{line-goes-on, line-inside}
 use Rattle.decode.specs.Decoding.{decodedAt}
@@ -40,15 +40,15 @@ use Rattle.stretches.proofs.run_stretch.Statement.{statement}
 use Rattle.stretches.proofs.run_stretch.Tie as tie
 
 abbrev Inv-loop : tie.InvT-loop
-Inv-loop list₀ text from first frame now₀ at₀ line₀ next₀ list now at line next =
+Inv-loop list₀ tally₀ text from first frame now₀ at₀ line₀ next₀ list tally now at line next =
     (line + (length text - at) ≤ first + (length text - from))
     × (next ≡ ahead (readerOf frame) text at line)
     × (length list ≡ length list₀)
-    × StretchLeads (frame .job) (lent list) (now .entries) (stretch (limits (frame .job)) frame at line (lines (drop at text)) now) (lent list₀) (now₀ .entries)
+    × StretchLeads (frame .job) (lentBoth list tally) (now .entries) (stretch (limits (frame .job)) frame at line (lines (drop at text)) now) (lentBoth list₀ tally₀) (now₀ .entries)
     (stretch (limits (frame .job)) frame from first (lines (drop from text)) now₀)
 
 abbrev μ-loop : tie.MeasureT-loop
-μ-loop list₀ text from first frame now₀ at₀ line₀ next₀ list now at line next = length text - at
+μ-loop list₀ tally₀ text from first frame now₀ at₀ line₀ next₀ list tally now at line next = length text - at
 
 loop-holds : tie.Need-loop-holds Inv-loop μ-loop
 loop-holds c = (omega arith, c .before .pre .1, refl, lead-start refl)
@@ -60,7 +60,7 @@ returns c =
     let here = c .before .before .before .loop in
     let a = c .before .before .before .before .before .args in
     let j = limits (a .frame .job) in
-    stretch-ended (c .passed .result) (a .frame) (lent (a .list .now)) (a .progress) (λ j. stretch j (a .frame) (a .from) (a .first) (lines (drop (a .from) (a .text .now)))) (c .passed .ensures)
+    stretch-ended (c .passed .result) (a .frame) (lentBoth (a .list .now) (a .tally .now)) (a .progress) (λ j. stretch j (a .frame) (a .from) (a .first) (lines (drop (a .from) (a .text .now)))) (c .passed .ensures)
     (stretch-skip j (a .frame) (a .text .now) (here .at) (here .line) (here .now)
     ∙ stretch-end j (a .frame) (a .text .now) _ _ (here .now) (ahead-nothing (readerOf (a .frame)) (a .text .now) (here .at) (here .line) (sym (here .inv .1) ∙ c .before .enum-told .given .1))) (here .inv .3)
 
@@ -101,7 +101,7 @@ module _ (k : tie.After-known-told Inv-loop μ-loop) where
   meets = ahead-block reader text (around .loop .at) (around .loop .line) place number decoded (sym (around .loop .inv .1) ∙ k .before .next .given .1)
 
   -- what is left, from the block on
-  lead : StretchLeads (frame .job) (lent (around .loop .list)) (now .entries) (stretch (limits (frame .job)) frame place number (lines (drop place text)) now) (lent (entry .args .list .now)) (entry .args .progress .entries) (whole (limits (frame .job)) (entry .args .progress))
+  lead : StretchLeads (frame .job) (lentBoth (around .loop .list) (around .loop .tally)) (now .entries) (stretch (limits (frame .job)) frame place number (lines (drop place text)) now) (lentBoth (entry .args .list .now) (entry .args .tally .now)) (entry .args .progress .entries) (whole (limits (frame .job)) (entry .args .progress))
   lead = lead-skip (limits (frame .job)) frame text (around .loop .at) (around .loop .line) place number now (meets .past) (meets .counted) (around .loop .inv .3)
 
 shared-slice-read-counted : tie.Need-shared-slice-read-counted Inv-loop μ-loop
@@ -110,7 +110,7 @@ shared-slice-read-counted c = meets (c .before) .inside
 returns-2 : tie.Need-returns-2 Inv-loop μ-loop
 returns-2 c =
     let k = c .before .before .before .before in
-    stretch-refused (c .refused .result) (frame k) (lent (entry k .args .list .now)) (entry k .args .progress) (whole k) (c .refused .ensures)
+    stretch-refused (c .refused .result) (frame k) (lentBoth (entry k .args .list .now) (entry k .args .tally .now)) (entry k .args .progress) (whole k) (c .refused .ensures)
     (turn-spent (frame k .job) (frame k) (text k) (place k) (number k) (now k) (meets k .inside) (meets k .block) (c .before .if1 .taken)) (lead k)
 
 -- ---- There is room for it
@@ -127,7 +127,7 @@ returns-3 c =
     let r = c .before .before .before .before in
     let k = met r in
     let given = c .before .before .decoded .given in
-    stretch-refused (c .refused2 .result) (frame k) (lent (entry k .args .list .now)) (entry k .args .progress) (whole k) (c .refused2 .ensures)
+    stretch-refused (c .refused2 .result) (frame k) (lentBoth (entry k .args .list .now) (entry k .args .tally .now)) (entry k .args .progress) (whole k) (c .refused2 .ensures)
     (turn-refused (frame k .job) (frame k) (text k) (place k) (number k) (now k) (meets k .inside) (meets k .block) (may r) (given .0 .0) (meets k .decoded ∙ given .1)) (lead k)
 
 begun-requires : tie.Need-begun-requires Inv-loop μ-loop
@@ -170,7 +170,7 @@ returns-4 : tie.Need-returns-4 Inv-loop μ-loop
 returns-4 c =
     let b = c .before .before .before in
     let k = at-block b in
-    stretch-ended (c .passed2 .result) (frame k) (lent (entry k .args .list .now)) (entry k .args .progress) (whole k) (rw (b .begun .ensures) at (rw (c .before .at .ensures) at (c .passed2 .ensures)))
+    stretch-ended (c .passed2 .result) (frame k) (lentBoth (entry k .args .list .now) (entry k .args .tally .now)) (entry k .args .progress) (whole k) (rw (b .begun .ensures) at (rw (c .before .at .ensures) at (c .passed2 .ensures)))
     (turn-sequel (frame k .job) (frame k) (text k) (place k) (number k) (now k) (meets k .inside) (meets k .block) (may (room b)) (instruction b) (end b) (decodes b) (c .before .before .match3 .keys2)) (lead k)
 
 -- ---- A direct block
@@ -203,16 +203,16 @@ module _ (p : tie.After-is-pattern Inv-loop μ-loop) where
 
   -- it was carried out
   module _
-      {status : Status} {left : Progress} {list : List ℤ}
-      (carried : Ran entriesMade (frame here .job) status left (lent (around here .loop .list)) (lent list) (began .begun .result .entries) (carryDirect judging (frame here) (number here) direct (began .begun .result))) where
-    made-ran : Ran entriesMade (frame here .job) status left (lent (around here .loop .list)) (lent list) (now here .entries) made
+      {status : Status} {left : Progress} {list : List ℤ} {tally : List ℕ}
+      (carried : Ran entriesMade (frame here .job) status left (lentBoth (around here .loop .list) (around here .loop .tally)) (lentBoth list tally) (began .begun .result .entries) (carryDirect judging (frame here) (number here) direct (began .begun .result))) where
+    made-ran : Ran entriesMade (frame here .job) status left (lentBoth (around here .loop .list) (around here .loop .tally)) (lentBoth list tally) (now here .entries) made
     made-ran =
-        subst (λ (g : Progress). Ran entriesMade (frame here .job) status left (lent (around here .loop .list)) (lent list) (g .entries) (carryDirect judging (frame here) (number here) direct g)) (began .begun .ensures) carried
+        subst (λ (g : Progress). Ran entriesMade (frame here .job) status left (lentBoth (around here .loop .list) (around here .loop .tally)) (lentBoth list tally) (g .entries) (carryDirect judging (frame here) (number here) direct g)) (began .begun .ensures) carried
 
     refuses : {code line : ℕ} → status ≡ Refused code line → stretch judging (frame here) (place here) (number here) (lines (drop (place here) (text here))) (now here) ≡ refusedAt code line
     refuses e = here-made ∙ ap (λ (o : Out (Made Progress)). onward (stepOf o) rest) (refused-out made (sym e ∙ made-ran .same-status))
 
-    passes : status ≡ Passed → StretchLeads (frame here .job) (lent list) (left .entries) (rest left) (lent (entry here .args .list .now)) (entry here .args .progress .entries) (whole here judging (entry here .args .progress))
+    passes : status ≡ Passed → StretchLeads (frame here .job) (lentBoth list tally) (left .entries) (rest left) (lentBoth (entry here .args .list .now) (entry here .args .tally .now)) (entry here .args .progress .entries) (whole here judging (entry here .args .progress))
     passes e = lead-on made rest e made-ran (lead-as here-made (lead here))
 
   -- the lines behind it fit as those from the start do
@@ -220,34 +220,34 @@ module _ (p : tie.After-is-pattern Inv-loop μ-loop) where
   fits = omega (arith, around here .loop .inv .0, meets here .past, meets here .counted, meets here .inside, line-end began .0)
 
 carry-pattern-requires : tie.Need-carry-pattern-requires Inv-loop μ-loop
-carry-pattern-requires c κs = sym (c .before .before .is-pattern .ensures) ∙ c .before .if2 .taken
+carry-pattern-requires c κs = sym (c .before .before .before .is-pattern .ensures) ∙ c .before .before .if2 .taken
 
 same-length-5 : tie.Need-same-length-5 Inv-loop μ-loop
 same-length-5 c =
     let r = c .before .before .before .before .before .before in
-    r .carry-pattern .kept .0 ∙ around (here (r .before .before .before)) .loop .inv .2
+    r .carry-pattern .kept .0 ∙ around (here (r .before .before .before .before)) .loop .inv .2
 
 returns-5 : tie.Need-returns-5 Inv-loop μ-loop
 returns-5 c =
     let r = c .before .before .before .before .before .before in
-    let p = r .before .before .before in
+    let p = r .before .before .before .before in
     let k = here p in
-    stretch-refused (c .refused3 .result) (frame k) (lent (entry k .args .list .now)) (entry k .args .progress) (whole k) (c .refused3 .ensures) (refuses p (r .carry-pattern .ensures) (c .before .before .status .given .1)) (lead k)
+    stretch-refused (c .refused3 .result) (frame k) (lentBoth (entry k .args .list .now) (entry k .args .tally .now)) (entry k .args .progress) (whole k) (c .refused3 .ensures) (refuses p (r .carry-pattern .ensures) (c .before .before .status .given .1)) (lead k)
 
 carry-plain-requires : tie.Need-carry-plain-requires Inv-loop μ-loop
-carry-plain-requires c κs = sym (c .before .before .is-pattern .ensures) ∙ c .before .if2 .left
+carry-plain-requires c κs = sym (c .before .before .before .is-pattern .ensures) ∙ c .before .before .if2 .left
 
 same-length-6 : tie.Need-same-length-6 Inv-loop μ-loop
 same-length-6 c =
     let r = c .before .before .before .before .before .before in
-    r .carry-plain .kept .0 ∙ around (here (r .before .before .before)) .loop .inv .2
+    r .carry-plain .kept .0 ∙ around (here (r .before .before .before .before)) .loop .inv .2
 
 returns-6 : tie.Need-returns-6 Inv-loop μ-loop
 returns-6 c =
     let r = c .before .before .before .before .before .before in
-    let p = r .before .before .before in
+    let p = r .before .before .before .before in
     let k = here p in
-    stretch-refused (c .refused4 .result) (frame k) (lent (entry k .args .list .now)) (entry k .args .progress) (whole k) (c .refused4 .ensures) (refuses p (r .carry-plain .ensures) (c .before .before .status2 .given .1)) (lead k)
+    stretch-refused (c .refused4 .result) (frame k) (lentBoth (entry k .args .list .now) (entry k .args .tally .now)) (entry k .args .progress) (whole k) (c .refused4 .ensures) (refuses p (r .carry-plain .ensures) (c .before .before .status2 .given .1)) (lead k)
 
 -- ---- And on to what is ahead
 
@@ -265,8 +265,8 @@ loop-again c =
     let same = around (here p) .loop .inv .2 in (
       fits p,
       c .look-ahead .ensures,
-      ⊎-elim (λ w. rw (w .7) (w .2 .kept .0 ∙ same)) (λ w. rw (w .7) (w .2 .kept .0 ∙ same)) (c .before .if2 .came),
-      ⊎-elim (λ w. rw (w .7, w .8) (passes p (w .2 .ensures) (w .6 .given .1))) (λ w. rw (w .7, w .8) (passes p (w .2 .ensures) (w .6 .given .1))) (c .before .if2 .came),
+      ⊎-elim (λ w. rw (w .8) (w .3 .kept .0 ∙ same)) (λ w. rw (w .8) (w .3 .kept .0 ∙ same)) (c .before .if2 .came),
+      ⊎-elim (λ w. rw (w .8, w .9, w .10) (passes p (w .3 .ensures) (w .7 .given .1))) (λ w. rw (w .8, w .9, w .10) (passes p (w .3 .ensures) (w .7 .given .1))) (c .before .if2 .came),
     )
 
 pub run-stretch-spec : {M : Type 1} → statement M

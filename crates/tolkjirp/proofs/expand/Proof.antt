@@ -9,23 +9,21 @@ use Rattle.aries.specs.declared.reader.Setting.{Setting}
 use Rattle.aries.specs.Reader.{settingOf}
 use Rattle.aries.specs.Program.{expand}
 use Rattle.tolkjirp.specs.Cleaned.{afterCleaning}
-use Rattle.tolkjirp.proofs.Endings.{answers-refused, answers-as, expand-empty, expand-long, expand-through}
+use Rattle.tolkjirp.proofs.Endings.{answers-as, expand-empty, expand-long, expand-through}
 use Rattle.tolkjirp.proofs.expand.Statement.{statement}
 use Rattle.tolkjirp.proofs.expand.Tie as tie
 
 returns : tie.Need-returns
 returns c =
-    let f = c .before .refuse in
-    let t = c .before .before .before in
+    let t = c .before .before .before .before in
     let a = t .before .before .args in
-    answers-refused (length (a .list .now)) (f .ensures .0) (f .ensures .1) (expand-empty (a .setting) (a .text .now) (length (a .list .now)) (t .if1 .taken))
+    answers-as (sym (expand-empty (a .setting) (a .text .now) (length (a .list .now)) (t .if1 .taken))) (c .before .refuse .ensures)
 
 returns-2 : tie.Need-returns-2
 returns-2 c =
-    let f = c .before .refuse2 in
-    let t = c .before .before .before in
+    let t = c .before .before .before .before in
     let a = t .before .before .before .args in
-    answers-refused (length (a .list .now)) (f .ensures .0) (f .ensures .1) (expand-long (a .setting) (a .text .now) (length (a .list .now)) (t .if2 .taken))
+    answers-as (sym (expand-long (a .setting) (a .text .now) (length (a .list .now)) (t .if2 .taken))) (c .before .refuse2 .ensures)
 
 number-back : (c : tie.Start) → toZ w32 (ofZ w32 (c .args .setting)) ≡ c .args .setting
 number-back c = search needs
@@ -48,8 +46,8 @@ expand-spec =
     returns-2
     (λ c κs. search needs)
     (λ c κs. search needs) (λ c. search needs)
-    (λ c. answers-as (allowed (c .before .before .before .before)) (c .before .expand-tiny .ensures))
+    (λ c. answers-as (allowed (c .before .before .before .before .before)) (c .before .expand-tiny .ensures))
     (λ c κs. search needs) (λ c. search needs)
-    (λ c. answers-as (allowed (c .before .before .before .before .before)) (c .before .expand-short .ensures))
+    (λ c. answers-as (allowed (c .before .before .before .before .before .before)) (c .before .expand-short .ensures))
     (λ c κs. search needs) (λ c. search needs)
-    (λ c. answers-as (allowed (c .before .before .before .before .before)) (c .before .expand-long .ensures)))
+    (λ c. answers-as (allowed (c .before .before .before .before .before .before)) (c .before .expand-long .ensures)))

@@ -11,7 +11,7 @@ use Rattle.aries.specs.Text.{lines, strayLine, withoutSpaces}
 use Rattle.aries.specs.Judging.{lending}
 use Rattle.aries.specs.Program.{perform}
 use Rattle.text.proofs.Cleaning.{dense-short}
-use Rattle.tolkjirp.proofs.Endings.{answers-refused, answers-as, stray-found, dense-found, after-stray, after-dense}
+use Rattle.tolkjirp.proofs.Endings.{answers-as, stray-found, dense-found, after-stray, after-dense}
 use Rattle.tolkjirp.proofs.expand_through.Statement.{statement}
 use Rattle.tolkjirp.proofs.expand_through.Tie as tie
 
@@ -49,16 +49,16 @@ module _ (c : tie.After-known-told2) where
 
 returns : tie.Need-returns
 returns c =
-    let f = c .before .refuse in
-    let s = c .before .before .before .before in
+    let s = c .before .before .before .before .before in
     let k = s .before .before .before .before in
     let a = entry k .args in
-    answers-refused (length (a .list .now)) (f .ensures .0) (f .ensures .1)
-    (after-stray (a .setting) (a .text .now) (length (a .list .now)) (stray-found (strayLine 1 (a .text .now)) (withoutSpaces (a .text .now)) _ (sym (s .cleaned .given .1) ∙ k .clean .ensures .answered)))
+    answers-as
+    (sym (after-stray (a .setting) (a .text .now) (length (a .list .now)) (stray-found (strayLine 1 (a .text .now)) (withoutSpaces (a .text .now)) _ (sym (s .cleaned .given .1) ∙ k .clean .ensures .answered))))
+    (c .before .refuse .ensures)
 
 returns-2 : tie.Need-returns-2
 returns-2 c =
-    let k = c .before .before .before .before in
+    let k = c .before .before .before .before .before in
     let a = entry (cleans k) .args in
     let n = length (a .list .now) in
     answers-as
@@ -69,9 +69,9 @@ expand-through-spec =
     tie.close
     (tie.spec
     (λ c κs. search needs) (λ c. search needs) (λ c κs. search needs) (λ c. search needs)
-    (λ c. within (c .before))
-    (λ c. sym (part (c .before .before)))
-    (λ c κs. let k = c .before .before in omega (arith, part k, short k, entry (cleans k) .pre .0))
+    (λ c. within (c .before .before))
+    (λ c. sym (part (c .before .before .before)))
+    (λ c κs. let k = c .before .before .before in omega (arith, part k, short k, entry (cleans k) .pre .0))
     (λ c. search needs) (λ c. search needs)
     returns
     (λ c. search needs) (λ c. search needs)

@@ -7,7 +7,7 @@ use Rattle.aries.specs.declared.block.Kind.the-variants.{G26, G28, G29, G36, G3
 use Rattle.aries.specs.declared.block.Kind.{Kind}
 use Rattle.aries.specs.Forms.{formOf}
 use Rattle.words.proofs.Summaries.{marks-unchanged, marks-g91}
-use Rattle.blocks.proofs.Arms.{alike}
+use Rattle.lengths.proofs.Arms.{alike}
 use Rattle.blocks.proofs.letters.beside_fits.Statement.{statement}
 use Rattle.blocks.proofs.letters.beside_fits.Tie as tie
 

@@ -10,7 +10,7 @@ use Rattle.aries.specs.declared.block.Kind.the-variants.{G26, G28, G29, G36, G3
 use Rattle.aries.specs.Text.{bytes}
 use Rattle.aries.specs.Forms.{formOf}
 use Rattle.blocks.specs.Counting.{countFits}
-use Rattle.blocks.proofs.Arms.{alike}
+use Rattle.lengths.proofs.Arms.{alike}
 use Rattle.blocks.proofs.letters.form_fits.Statement.{statement}
 use Rattle.blocks.proofs.letters.form_fits.Tie as tie
 

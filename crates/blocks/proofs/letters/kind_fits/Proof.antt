@@ -6,7 +6,7 @@ use Rattle.words.specs.Keeping.{lettersOf}
 use Rattle.aries.specs.declared.block.Kind.the-variants.{G26, G28, G29, G36, G37, G50, G70, G72, G75, G76, G92, G93, G98, Position, Lone, LetterB, LetterU, LetterV, LetterW, G66}
 use Rattle.aries.specs.ByLetter.{Letters}
 use Rattle.aries.specs.Forms.{kindFits}
-use Rattle.blocks.proofs.Arms.{alike}
+use Rattle.lengths.proofs.Arms.{alike}
 use Rattle.blocks.proofs.letters.kind_fits.Statement.{statement}
 use Rattle.blocks.proofs.letters.kind_fits.Tie as tie
 

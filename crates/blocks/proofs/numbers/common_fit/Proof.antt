@@ -2,7 +2,7 @@
 use borrow.Author.Needs.{needs}
 use Rattle.aries.specs.Numbers.{numberFits, commonRanges}
 use Rattle.words.specs.Keeping.{lettersOf}
-use Rattle.blocks.proofs.Tests.{pass-all}
+use Rattle.lengths.proofs.Tests.{pass-all}
 use Rattle.blocks.proofs.numbers.common_fit.Statement.{statement}
 use Rattle.blocks.proofs.numbers.common_fit.Tie as tie
 

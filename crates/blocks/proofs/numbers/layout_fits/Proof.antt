@@ -3,7 +3,7 @@ use borrow.Author.Needs.{needs}
 use Rattle.aries.specs.declared.block.Kind.the-variants.{G98}
 use Rattle.aries.specs.Numbers.{numberFits, rangesOf}
 use Rattle.words.specs.Keeping.{lettersOf}
-use Rattle.blocks.proofs.Tests.{pass-all}
+use Rattle.lengths.proofs.Tests.{pass-all}
 use Rattle.blocks.proofs.numbers.layout_fits.Statement.{statement}
 use Rattle.blocks.proofs.numbers.layout_fits.Tie as tie
 

@@ -5,7 +5,7 @@ use mathlib.Core.List.{[], _∷_}
 use borrow.Author.Needs.{needs}
 use Rattle.aries.specs.declared.block.Kind.the-variants.{G36, G37, G50, G70, G72, G75, G76, G92, G93, Position, Lone, LetterM, Unknown, G66}
 use Rattle.aries.specs.Numbers.{rangesOf}
-use Rattle.blocks.proofs.Arms.{alike}
+use Rattle.lengths.proofs.Arms.{alike}
 use Rattle.blocks.proofs.numbers.ranges_fit.Statement.{statement}
 use Rattle.blocks.proofs.numbers.ranges_fit.Tie as tie
 

@@ -1,4 +1,4 @@
--- Each number that is narrowed has passed its range (`Bounds`), and each arm is that of the definition. Assumes nothing.
+-- Each number that is narrowed has passed its range (`Ranges` of aries), and each arm is that of the definition. Assumes nothing.
 use mathlib.Core.Path.{_≡_, refl}
 use mathlib.Core.Bool.{true}
 use Prim.Native.Nat.{ℕ, _≤_}
@@ -9,7 +9,9 @@ use Rattle.aries.specs.Letters.{letterA, letterB, letterK, letterP, letterQ, le
 use Rattle.aries.specs.ByLetter.{Letters}
 use Rattle.aries.specs.Numbers.{rangesOf}
 use Rattle.aries.specs.Blocks.{count, blockOf}
-use Rattle.blocks.proofs.Bounds.{limits, own-limit, common-limit}
+use Rattle.aries.proofs.Words.{EachWord, ZeroIfAbsent}
+use Rattle.aries.proofs.Ranges.{limits, own-limit, common-limit}
+use Rattle.lengths.proofs.Sized.{sized-absent}
 use Rattle.blocks.proofs.request.block_of.Statement.{statement}
 use Rattle.blocks.proofs.request.block_of.Tie as tie
 
@@ -18,9 +20,12 @@ abbrev all-words : tie.Start → Letters
 all-words s = lettersOf (s .args .forms .now) (s .args .numbers .now)
 
 module _ (s : tie.Start) where
+  absent : EachWord ZeroIfAbsent (all-words s)
+  absent = sized-absent (all-words s) (s .pre .0)
+
   -- a number that the kind limits, and two of them
   own : {k : Kind} → s .args .kind ≡ k → (letter cap : ℕ) → limits (rangesOf k) letter cap ≡ true → count (all-words s) letter ≤ cap
-  own = own-limit (all-words s) (s .args .kind) (s .pre .0) (s .pre .1)
+  own = own-limit (all-words s) absent (s .args .kind) (s .pre .1)
 
   two :
       {k : Kind} → s .args .kind ≡ k → (l m cap : ℕ) → limits (rangesOf k) l cap ≡ true → limits (rangesOf k) m cap ≡ true
@@ -29,10 +34,10 @@ module _ (s : tie.Start) where
 
   -- T and A, which are limited in every kind
   tool : count (all-words s) letterT ≤ 255
-  tool = common-limit (all-words s) (s .args .kind) (s .pre .0) (s .pre .1) letterT 255 refl
+  tool = common-limit (all-words s) absent (s .args .kind) (s .pre .1) letterT 255 refl
 
   tool-and-memory : (count (all-words s) letterT ≤ 255) × (count (all-words s) letterA ≤ 255)
-  tool-and-memory = (tool, common-limit (all-words s) (s .args .kind) (s .pre .0) (s .pre .1) letterA 255 refl)
+  tool-and-memory = (tool, common-limit (all-words s) absent (s .args .kind) (s .pre .1) letterA 255 refl)
 
 pub block-of-spec : {M : Type 1} → statement M
 unfolding blockOf

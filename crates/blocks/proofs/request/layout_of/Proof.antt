@@ -1,8 +1,8 @@
--- Numbers of six digits can be added (`Bounds`). Assumes nothing.
+-- Numbers of six digits can be added (`Sized`). Assumes nothing.
 use native.Mathlib.Omega.{arith}
 use borrow.Author.Needs.{needs}
 use Rattle.aries.specs.Letters.{letterD, letterI, letterJ}
-use Rattle.blocks.proofs.Bounds.{size-small}
+use Rattle.lengths.proofs.Sized.{size-small}
 use Rattle.blocks.proofs.request.layout_of.Statement.{statement}
 use Rattle.blocks.proofs.request.layout_of.Tie as tie
 

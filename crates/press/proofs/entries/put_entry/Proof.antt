@@ -7,6 +7,7 @@ use mir.Syntax.{w32}
 use mir.Val.{toZ, ofZ}
 use borrow.Author.Tests.{lt-ltb, le-ltb}
 use borrow.Author.Needs.{needs}
+use Rattle.aries.proofs.Runs.{put-lent}
 use Rattle.press.proofs.entries.put_entry.Statement.{statement}
 use Rattle.press.proofs.entries.put_entry.Tie as tie
 
@@ -72,13 +73,14 @@ returns : tie.Need-returns
 returns c =
     let n = c .before .before .before .before .before in
     let a = n .before .args in
-    simp (lt-ltb (a .k) (length (a .list .now) / 4) (c .if1 .taken))
-    (simp (x-back n, y-back n, tool-back n, mode-back n) (simp (n .numbers .ensures)))
+    rw (put-lent (a .list .now) (a .k) (a .entry))
+    (simp (lt-ltb (a .k) (length (a .list .now) / 4) (c .if1 .taken))
+    (simp (x-back n, y-back n, tool-back n, mode-back n) (simp (n .numbers .ensures))))
 
 returns-2 : tie.Need-returns-2
 returns-2 c =
     let a = c .before .before .before .before .before .before .args in
-    simp (le-ltb (a .k) (length (a .list .now) / 4) (c .if1 .left))
+    rw (put-lent (a .list .now) (a .k) (a .entry)) (simp (le-ltb (a .k) (length (a .list .now) / 4) (c .if1 .left)))
 
 pub put-entry-spec : {M : Type 1} → statement M
 put-entry-spec =

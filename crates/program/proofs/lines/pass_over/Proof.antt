@@ -6,7 +6,7 @@ use borrow.Author.Needs.{needs}
 use Rattle.aries.specs.declared.setup.Stage.the-variants.{Storing}
 use Rattle.aries.specs.Judging.{limits}
 use Rattle.text.proofs.Lines.{line-inside}
-use Rattle.program.specs.Turns.{Beyond}
+use Rattle.program.specs.Lines.{Beyond}
 use Rattle.program.proofs.Turns.{turns-line}
 use Rattle.program.proofs.RunFrom.{passed-close, passed-other}
 use Rattle.program.proofs.lines.pass_over.Statement.{statement}

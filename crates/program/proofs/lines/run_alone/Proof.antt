@@ -20,8 +20,8 @@ use Rattle.aries.specs.Text.{lineFeed}
 use Rattle.text.proofs.Lines.{blanks-inside, next-stop, line-inside, line-goes-on}
 use Rattle.decode.specs.Decoding.{decodedAt}
 use Rattle.decode.proofs.Decoding.{decoded-instruction}
-use Rattle.program.specs.Turns.{program, placed, linesFrom}
-use Rattle.program.proofs.Placed.{not-storing}
+use Rattle.turns.specs.Turns.{program, placed, linesFrom}
+use Rattle.turns.proofs.Placed.{not-storing}
 use Rattle.program.proofs.Turns.{turns-line, turns-refused, turns-settled}
 use Rattle.program.proofs.RunFrom.{skip, countedAt, block-spent, block-refused, block-begun}
 use Rattle.program.proofs.lines.run_alone.Statement.{statement}

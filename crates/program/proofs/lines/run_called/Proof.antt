@@ -7,7 +7,7 @@ use Rattle.aries.specs.Macros.{bodiesOf, mostCalls, call, carry}
 use Rattle.aries.specs.Program.{carryOut, carryOutside}
 use Rattle.aries.specs.Setup.{ordinaryFrame}
 use Rattle.aries.proofs.Runs.{ran-map}
-use Rattle.program.specs.Turns.{program}
+use Rattle.turns.specs.Turns.{program}
 use Rattle.program.proofs.lines.run_called.Statement.{statement}
 use Rattle.program.proofs.lines.run_called.Tie as tie
 
@@ -15,7 +15,7 @@ returns : tie.Need-returns
 unfolding carryOut carry
 returns c stage end =
     let r = c .before in
-    let e = r .before .before .before .before in
+    let e = r .before .before .before .before .before in
     let a = e .before .before .before .args in
     let j = limits (a .setup .job) in
     rw (e .called .given .1)
@@ -26,7 +26,7 @@ returns-2 : tie.Need-returns-2
 unfolding carryOut carryOutside
 returns-2 c stage end =
     let r = c .before in
-    let e = r .before .before .before in
+    let e = r .before .before .before .before in
     let a = e .before .before .before .args in
     let j = limits (a .setup .job) in
     rw (e .called2 .given .1)

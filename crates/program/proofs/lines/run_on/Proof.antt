@@ -6,12 +6,12 @@ use lib.ListN.{length}
 use Rattle.aries.specs.declared.setup.Stage.the-variants.{Running}
 use Rattle.aries.specs.declared.state.Status.the-variants.{Passed}
 use Rattle.aries.specs.Judging.{limits}
-use Rattle.aries.specs.Runs.{lent, entriesMade, Ran}
+use Rattle.aries.specs.Runs.{lentBoth, entriesMade, Ran}
 use Rattle.aries.specs.Setup.{ordinaryFrame}
 use Rattle.stretches.specs.declared.Sequel.{Sequel}
 use Rattle.stretches.specs.declared.Sequel.the-variants as Sequel
 use Rattle.stretches.proofs.Sequels.{SequelBehind, stretch-behind}
-use Rattle.program.specs.Turns.{program, placed}
+use Rattle.turns.specs.Turns.{program, placed}
 use Rattle.program.proofs.RunFrom.{text-end}
 use Rattle.program.proofs.Turns.{comes-beyond}
 use Rattle.program.proofs.Stretches.{here, stretch-refused, stretch-passed, sequel-beyond}
@@ -21,17 +21,17 @@ use Rattle.program.proofs.lines.run_on.Tie as tie
 -- the stretch
 module _ (c : tie.After-run-stretch) where
   abbrev entry : tie.Start
-  entry = c .before .before .before .before .before
+  entry = c .before .before .before .before .before .before
 
   ran :
       let a = entry .args in
-      Ran entriesMade (a .setup .job) (c .run-stretch .result .outcome .status) (c .run-stretch .result .outcome .progress) (lent (a .list .now)) (lent (c .run-stretch .last .0)) (a .progress .entries)
+      Ran entriesMade (a .setup .job) (c .run-stretch .result .outcome .status) (c .run-stretch .result .outcome .progress) (lentBoth (a .list .now) (a .tally .now)) (lentBoth (c .run-stretch .last .0) (c .run-stretch .last .1 .0)) (a .progress .entries)
       (here (a .text .now) (a .at) (a .line) (a .setup) (a .progress) .made)
-  ran = rw (c .before .before .before .frame .ensures) at (c .run-stretch .ensures .ran)
+  ran = rw (c .before .before .before .before .frame .ensures) at (c .run-stretch .ensures .ran)
 
   module _ {x : Sequel} (e : c .run-stretch .result .sequel ≡ x) where
     same-sequel : let a = entry .args in x ≡ here (a .text .now) (a .at) (a .line) (a .setup) (a .progress) .sequel
-    same-sequel = sym e ∙ (rw (c .before .before .before .frame .ensures) at (c .run-stretch .ensures .same-sequel))
+    same-sequel = sym e ∙ (rw (c .before .before .before .before .frame .ensures) at (c .run-stretch .ensures .same-sequel))
 
     behind : let a = entry .args in SequelBehind (a .text .now) (a .at) (a .line) x
     behind =
@@ -93,7 +93,7 @@ run-on-spec =
     (tie.spec
     (λ c κs. search needs)
     (λ c κs. let p = c .before .before .pre in omega arith)
-    (λ c κs. let p = c .before .before .before .before .pre in (omega arith, c .before .look-ahead .ensures))
+    (λ c κs. let p = c .before .before .before .before .before .pre in (omega arith, c .before .before .look-ahead .ensures))
     (λ c. search needs) (λ c κs. search needs) (λ c. search needs)
     returns
     (λ c. search needs) (λ c. search needs) (λ c κs. search needs) (λ c. search needs) (λ c κs. search needs) (λ c. search needs) (λ c κs. search needs)

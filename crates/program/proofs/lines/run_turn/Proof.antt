@@ -10,7 +10,7 @@ run-turn-spec =
     (tie.spec
     (λ c. search needs) (λ c κs. search needs) (λ c. search needs) (λ c κs. search needs) (λ c. search needs) (λ c κs. search needs)
     (λ c. search needs) (λ c κs. search needs) (λ c. search needs)
-    (λ c. let r = c .before in turns-at (r .before .before .enum-told .given .1) (r .run-on .ensures))
+    (λ c. let r = c .before in turns-at (r .before .before .before .enum-told .given .1) (r .run-on .ensures))
     (λ c. turns-at (c .before .enum-told2 .given .1) (c .pass-over .ensures _))
     (λ c. turns-at (c .before .enum-told3 .given .1) (c .run-alone .ensures _))
     (λ c. turns-at (c .before .enum-told4 .given .1) (c .run-alone2 .ensures _)))

@@ -1,36 +1,17 @@
--- Each arm is that of the definition; there is no other.
-use mathlib.Core.Path.{_≡_, sym, _∙_}
-use mathlib.Core.Bool.{true≢false}
+-- The hits of a pattern have one tool, so they are counted in one go.
 use borrow.Author.Needs.{needs}
-use Rattle.aries.specs.Macros.{carryDirect}
-use Rattle.stretches.proofs.Plain.{other-plain}
+use Rattle.aries.specs.Judging.{limits}
+use Rattle.stretches.proofs.Counted.{hits-counted}
 use Rattle.stretches.proofs.direct.carry_pattern.Statement.{statement}
 use Rattle.stretches.proofs.direct.carry_pattern.Tie as tie
 
 returns : tie.Need-returns
-unfolding carryDirect
-returns c = rw (c .before .before .before .before .block .given .1) (c .before .run-pattern .ensures)
-
-returns-2 : tie.Need-returns-2
-unfolding carryDirect
-returns-2 c = rw (c .before .before .before .before .block2 .given .1) (c .before .recall .ensures)
-
-returns-3 : tie.Need-returns-3
-returns-3 c =
-    let s = c .before .before in
-    absurd (true≢false (sym (s .pre) ∙ other-plain (s .args .block) (c .before .match .keys3)))
+returns c =
+    let o = c .before .before .before in
+    let s = o .before .before in
+    let a = s .args in
+    rw (c .count-hits .ensures)
+    (hits-counted (limits (a .frame .job)) (a .frame) (a .line) (a .progress) (a .tally .now) (a .block) (o .pattern-outcome .ensures) (rw (s .pre)))
 
 pub carry-pattern-spec : {M : Type 1} → statement M
-carry-pattern-spec =
-    tie.close
-    (tie.spec
-    (λ c. search needs)
-    (λ c κs. search needs)
-    (λ c. search needs)
-    (λ c κs. search needs)
-    (λ c κs. search needs)
-    (λ c. search needs)
-    returns
-    (λ c. search needs)
-    returns-2
-    returns-3)
+carry-pattern-spec = tie.close (tie.spec (λ c κs. search needs) (λ c κs. search needs) (λ c. search needs) returns)

@@ -21,8 +21,8 @@ number-back c = search needs
 
 returns : tie.Need-returns
 returns c =
-    let x = rw (number-back (c .before .before .before .before .before)) at (c .before .before .expand .ensures) in
-    record { answered = c .three-numbers .ensures ∙ ap threeNumbers (x .answered); listed = x .listed }
+    let x = rw (number-back (c .before .before .before .before .before .before)) at (c .before .before .expand .ensures) in
+    record { answered = c .three-numbers .ensures ∙ ap threeNumbers (x .answered); listed = x .listed; tallied = x .tallied }
 
 pub tolkjirp-expand-spec : {M : Type 1} → statement M
 tolkjirp-expand-spec =

@@ -1,0 +1,4 @@
+pub mod Arms
+pub mod Sized
+pub mod Hundredths
+pub mod Tests
