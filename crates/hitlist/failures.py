@@ -15,9 +15,11 @@ ROOT = os.path.dirname(os.path.dirname(os.path.dirname(os.path.abspath(__file__)
 PROGRAM = sys.argv[1] if len(sys.argv) > 1 else os.path.join(ROOT, 'target/bin/hitlist')
 HEAD = b'G92X600.Y600.\nX1.Y1.T1\n'
 PLATE = HEAD + b'G50\n'
-LISTING = b'ENTRIES 1\n1 100 100 1 P\n'
+LISTING = b'ENTRIES 1\n1 100 100 1 P\n1 1 1 1\n'
 # 4,096 hits: one, and a grid of 64 by 64 without its start
 LONG = HEAD + b'G36I1.P63J1.K63\nG50\n'
+# 4,096 hits with 99 tools: each once, and the last for what is left
+TOOLS = b'G92X600.Y600.\n' + b''.join(b'X1.Y1.T%d\n' % tool for tool in range(1, 100)) + b'X1.\n' * 3997 + b'G50\n'
 USAGE = b'usage: hitlist [PLATE]\n'
 
 failures = 0
@@ -106,9 +108,13 @@ def lengths():
     for count in 0, 1, 2, 100, 127, 128, 1023, 1024, 2000, 4095:
         blocks = b'X1.Y1.T1\n' * count
         lines = run(text=b'G92X600.Y600.\n' + blocks + b'G50\n')[0].split(b'\n')
-        look('%d entries' % count, (lines[0], len(lines)), (b'ENTRIES %d' % count, count + 2))
+        tools = [b'1 %d 1 %d' % (count, count)] if count else []
+        look('%d entries' % count, (lines[0], lines[count + 1:]), (b'ENTRIES %d' % count, tools + [b'']))
     lines = run(text=LONG)[0].split(b'\n')
-    look('4,096 entries', (lines[0], lines[4096], len(lines)), (b'ENTRIES 4096', b'4096 100 6400 1 P', 4098))
+    look('4,096 entries', (lines[0], lines[4096:]), (b'ENTRIES 4096', [b'4096 100 6400 1 P', b'1 4096 1 4096', b'']))
+    lines = run(text=TOOLS)[0].split(b'\n')
+    tools = [b'%d 1 %d %d' % (tool, tool, tool) for tool in range(1, 99)] + [b'99 3998 99 4096']
+    look('99 tools', (lines[0], lines[4096:]), (b'ENTRIES 4096', [b'4096 100 100 99 P'] + tools + [b'']))
     look('4,097 entries', run(text=LONG.replace(b'G50', b'X1.\nG50'))[0], b'REFUSED 17 LINE 4\n')
 
 

@@ -1,4 +1,5 @@
-// Reads a program text from a file or from standard input, and prints the listing of its entries, or its refusal.
+// Reads a program text from a file or from standard input, and prints the listing of its entries and of the tools used, or
+// its refusal.
 mod input; // reading a text
 mod output; // listings
 
@@ -6,6 +7,7 @@ use crate::input::read_text;
 use crate::output::print_listing;
 use libc::STDERR_FILENO;
 use libc::STDIN_FILENO;
+use tallies::FIGURES;
 
 // What is read: one byte more than a text may have is enough to refuse it.
 const MOST_READ: usize = 60_001;
@@ -19,8 +21,9 @@ const SETTING: i32 = 1;
 // Expands a text and prints its listing.
 fn run(text: &[u8]) {
     let mut list = [0i32; NUMBERS];
-    let answer = tolkjirp::expand(SETTING, text, &mut list);
-    print_listing(&list, answer);
+    let mut tally = [0u64; FIGURES];
+    let answer = tolkjirp::expand(SETTING, text, &mut list, &mut tally);
+    print_listing(&list, &tally, answer);
 }
 
 // Says on standard error what failed, and why the system says that it did.
@@ -34,7 +37,7 @@ fn tell_usage() {
     io::write_all(STDERR_FILENO, b"usage: hitlist [PLATE]\n");
     io::write_all(
         STDERR_FILENO,
-        b"Prints the entries of the punch code in the file PLATE, or in standard input.\n",
+        b"Prints the entries of the punch code in the file PLATE, or in standard input, and the tools used.\n",
     );
 }
 

@@ -1,27 +1,29 @@
-// The listing of a text's answer and entries, as bytes: a head with the count and a line for each entry, or one line for a
-// refusal.
+// The listing of a text's answer, entries and tally, as bytes: a head with the count, a line for each entry and one for each
+// tool used, or one line for a refusal.
 mod buffer; // bytes put into a buffer
 mod line; // the lines of a listing
 mod number; // numbers in decimal digits
+mod tool; // the lines of the tools used
 
 use crate::line::put_entry;
 use crate::line::put_head;
 use crate::line::put_refusal;
+use crate::tool::put_tools;
 use aries::answer::Answer;
+use tallies::FIGURES;
 ghost use Prim.Native.Nat.{suc, _*_, _≤_};
 ghost use lib.ListN.{length};
-ghost use Rattle.aries.specs.Program.{countOf};
-ghost use Rattle.printing.specs.Buffers.{Put, Ends};
-ghost use Rattle.printing.specs.Examples.{Examples, PlatePrinted, StopsPrinted};
-ghost use Rattle.printing.specs.Listing.{entryLines, listing, longestLine};
+ghost use Rattle.printing.specs.Buffers.{Room, Put, Ends};
+ghost use Rattle.printing.specs.Examples.{Examples, PlatePrinted, StopsPrinted, ToolsPrinted};
+ghost use Rattle.printing.specs.Listing.{entryLines, listing, longestLine, listingRoom};
 
-// The lines of the first entries, at the end of the buffer.
-fn put_entries(out: &mut [u8], list: &[i32], count: usize) -> usize
-    requires { ⌜ longestLine * suc count ≤ length (now out) ⌝ }
-    ensures { λ r. ⌜ Put (entryLines (now (list .entry)) count) (length (now (out .entry))) (now (out .entry)) r (now (out .exit)) ⌝ }
+// The lines of the first entries.
+fn put_entries(out: &mut [u8], end: usize, list: &[i32], count: usize) -> usize
+    requires { ⌜ Room (longestLine * suc count) end (now out) ⌝ }
+    ensures { λ r. ⌜ Put (entryLines (now (list .entry)) count) end (now (out .entry)) r (now (out .exit)) ⌝ }
     ensures { λ r. ⌜ longestLine ≤ r ⌝ }
 {
-    let mut at = out.len();
+    let mut at = end;
     let mut left = count;
     while 0 < left {
         left -= 1;
@@ -30,15 +32,16 @@ fn put_entries(out: &mut [u8], list: &[i32], count: usize) -> usize
     at
 }
 
-// Puts the listing at the end of a buffer and answers where it starts. The buffer has 64 bytes for each entry and for
-// the head; no line is longer.
-pub fn render(out: &mut [u8], list: &[i32], answer: Answer) -> usize
-    requires { ⌜ longestLine * suc (countOf answer) ≤ length (now out) ⌝ }
-    ensures { λ r. ⌜ Ends (listing answer (now (list .entry))) (now (out .entry)) r (now (out .exit)) ⌝ }
+// Puts the listing at the end of a buffer and answers where it starts. The buffer has 72 bytes for the head, for each entry
+// and for each of 99 tools; no line is longer.
+pub fn render(out: &mut [u8], list: &[i32], tally: &[u64; FIGURES], answer: Answer) -> usize
+    requires { ⌜ listingRoom answer ≤ length (now out) ⌝ }
+    ensures { λ r. ⌜ Ends (listing answer (now (list .entry)) (now (tally .entry))) (now (out .entry)) r (now (out .exit)) ⌝ }
 {
     match answer {
         Answer::Entries(count) => {
-            let entries = put_entries(out, list, count);
+            let tools = put_tools(out, tally);
+            let entries = put_entries(out, tools, list, count);
             put_head(out, entries, count)
         }
         Answer::Refused(number, line) => put_refusal(out, out.len(), number, line),
@@ -53,6 +56,11 @@ pub fn plate_printed()
 // M00 and M01 of document 02, from a text to its listing.
 pub fn stops_printed()
     ensures { λ _. ⌜ StopsPrinted ⌝ }
+{}
+
+// The lines of tools of document 02, from texts to their listings.
+pub fn tools_printed()
+    ensures { λ _. ⌜ ToolsPrinted ⌝ }
 {}
 
 // Other listings.

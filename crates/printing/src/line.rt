@@ -10,9 +10,9 @@ ghost use lib.ListN.{length, getD};
 ghost use Rattle.printing.specs.Buffers.{Room, Put};
 ghost use Rattle.printing.specs.Listing.{field, modeLetter, modeEnd, entryLine, headLine, refusalLine, longestLine};
 
-const LINE_FEED: u8 = 10;
+pub const LINE_FEED: u8 = 10;
 
-const SPACE: u8 = 32;
+pub const SPACE: u8 = 32;
 
 const LETTER_N: u8 = 78;
 

@@ -16,8 +16,8 @@ slice-aggregate-print-listing c = search needs
 
 print-listing-requires : tie.Need-print-listing-requires
 print-listing-requires c κs =
-    let x = c .before .before .expand in
-    omega (arith, count-within (x .result) (x .last .1 .1 .0) 16384 _ (x .ensures) (search needs))
+    let x = c .before .before .before .expand in
+    omega (arith, count-within (x .result) (x .last .1 .1 .0) (x .last .1 .1 .1 .0) 16384 _ (x .ensures) (search needs))
 
 returns : tie.Need-returns
 returns c = search needs
