@@ -5,9 +5,15 @@
 """
 import os
 import sys
-from table import CASES, R, E
-import cases_text, cases_press, cases_shear, cases_stops, cases_limits, cases_manual, cases_page, cases_plates, cases_settings
-from expander import expand, printed
+from table import CASES, R, E, STOP, OPTIONAL
+import cases_text, cases_press, cases_shear, cases_stops, cases_tally, cases_limits, cases_manual, cases_page, cases_plates, cases_settings
+from expander import expand, printed, tally
+
+
+def in_tool_order(tools):
+    """The figures of tools worked out by hand, as the expander has them."""
+    return [(tool,) + tools[tool] for tool in sorted(tools)]
+
 
 bad = 0
 answers = []
@@ -18,6 +24,7 @@ for name, setting, length, text, hand, reason in CASES:
         ok = (number, rest) == (hand.number, hand.line)
     else:
         ok = number == 0 and len(rest) == hand.count and all(rest[k - 1 if k > 0 else k] == e for k, e in hand.some.items())
+        ok = ok and (hand.tools is None or tally(rest) == in_tool_order(hand.tools))
     if not ok:
         bad += 1
         want = 'R%d/%d' % (hand.number, hand.line) if isinstance(hand, R) else 'E%d' % hand.count
@@ -26,15 +33,20 @@ for name, setting, length, text, hand, reason in CASES:
             for k, e in hand.some.items():
                 if abs(k) <= len(rest) and rest[k - 1 if k > 0 else k] != e:
                     print('    entry', k, 'hand', e, 'expander', rest[k - 1 if k > 0 else k])
+            if hand.tools is not None and tally(rest) != in_tool_order(hand.tools):
+                print('    tools: hand', in_tool_order(hand.tools), 'expander', tally(rest))
+    if number == 0 and sum(hits for tool, hits, first, last in tally(rest)) != len(rest) - rest.count(STOP) - rest.count(OPTIONAL):
+        bad += 1
+        print('DIFFERS', name, 'the hits of all tools do not add up to the entries that are no stops')
 print(len(CASES), 'cases,', bad, 'differ')
 
-GROUPS = ['plates', 'page', 'tempting', 'text', 'words', 'letters', 'codes', 'two', 'ranges', 'kinds', 'settings', 'moves', 'origin', 'patterns', 'memory', 'sine', 'shear', 'stops', 'macros',
+GROUPS = ['plates', 'page', 'tempting', 'text', 'words', 'letters', 'codes', 'two', 'ranges', 'kinds', 'settings', 'moves', 'origin', 'patterns', 'memory', 'sine', 'shear', 'stops', 'tally', 'macros',
           'layouts', 'lists', 'characters', 'calls', 'blocks', 'reach', 'refusal', 'order', 'decision', 'manual', 'samples']
 HEADS = {
     'plates': 'The plates of document 01', 'page': 'The examples of docs/PUNCH-CODE.md', 'tempting': 'Four readings that tempt', 'text': 'Bytes, lines, spaces', 'words': 'The form of a word (4)',
     'letters': 'The letters of each block (5)', 'codes': 'Codes (5)', 'two': 'Two G words (5)', 'ranges': 'Range ends and one beyond (6, 16)',
     'kinds': 'Signs and points on whole numbers (6)', 'settings': 'The decimal point setting (6, and what a number means)', 'moves': 'Moving and punching', 'origin': 'The waiting origin', 'patterns': 'Patterns',
-    'memory': 'Pattern memory', 'sine': 'Sines', 'shear': 'Shear proof, G66 (18)', 'stops': 'Stops, M00 and M01', 'macros': 'Macros', 'layouts': 'Layouts', 'lists': 'Lists (17)', 'characters': 'Characters of bodies (12)',
+    'memory': 'Pattern memory', 'sine': 'Sines', 'shear': 'Shear proof, G66 (18)', 'stops': 'Stops, M00 and M01', 'tally': 'The tally of hits by tool', 'macros': 'Macros', 'layouts': 'Layouts', 'lists': 'Lists (17)', 'characters': 'Characters of bodies (12)',
     'calls': 'Open calls (11)', 'blocks': 'Blocks carried out (3)', 'reach': 'Reach (15)', 'refusal': 'Each refusal at the top, in a body, in a first run, in a copy',
     'order': 'Two faults in one block', 'decision': 'Decisions', 'manual': 'Examples of the manuals',
     'samples': 'The sample plates',
@@ -46,6 +58,9 @@ NO_SETTINGS = ['x', '-', '2147483648', '-2147483649', '99999999999999999999', '1
 
 # arguments that are no length of a list: no number, too long for the longest list, a digit's neighbours
 NO_LENGTHS = ['x', '16385', '99999', '12x', '1:', '1/', '-4']
+
+# what the golden program prints of a tally with figures that its listing does not show; no answer has it
+UNCLEARED = 'TALLY NOT CLEARED'
 
 golden = list(zip(CASES, answers))
 golden.sort(key=lambda ca: (GROUPS.index(ca[0][0].split('-')[0]), ca[0][0] if ca[0][0].split('-')[0] in ('order', 'refusal') else ''))
@@ -70,6 +85,16 @@ def told(answer):
     if len(rest) <= 3:
         return ', '.join('(%d %d %d %s)' % e for e in rest)
     return '%d entries, (%d %d %d %s) to (%d %d %d %s)' % ((len(rest),) + rest[0] + rest[-1])
+
+
+def told_of_tools(hand):
+    """The lines of the tools, where they were worked out by hand."""
+    if isinstance(hand, R) or hand.tools is None:
+        return ''
+    lines = ['(%d %d %d %d)' % figures for figures in in_tool_order(hand.tools)]
+    if len(lines) > 4:
+        return '; %d tools, %s to %s' % (len(lines), lines[0], lines[-1])
+    return '; ' + (('tools ' if len(lines) > 1 else 'tool ') + ', '.join(lines) if lines else 'no tool')
 
 
 def shown(text):
@@ -100,6 +125,7 @@ def write(folder):
             f.write(text)
         words += [str(setting), str(length), file]
         out.append('%s %d %d\n%s' % (file, setting, length, printed(answer)))
+    assert not any(UNCLEARED in o for o in out)
     with open(os.path.join(folder, 'args'), 'w') as f:
         f.write('\n'.join(words) + '\n')
     with open(os.path.join(folder, 'stdout'), 'w') as f:
@@ -114,12 +140,14 @@ def write(folder):
                 f.write('\n## %s\n\n' % HEADS[g])
                 if g == 'shear':
                     f.write('In the last column w is the size of P, L is I + 2 x D, and the travel is L less w. Along and across are from the start, in hundredths.\n\n')
+                if g == 'tally':
+                    f.write('Behind the entries stands the line of each tool that has hits: tool, hits, first index, last index.\n\n')
                 if g == 'order':
                     f.write(PAIRS)
                 if g == 'decision':
                     f.write(DECISIONS)
                 f.write('| case | program | answer | why |\n|---|---|---|---|\n')
-            f.write('| %s | %s | %s%s | %s |\n' % (name, shown(text), called(setting, length), told(answer), reason))
+            f.write('| %s | %s | %s%s%s | %s |\n' % (name, shown(text), called(setting, length), told(answer), told_of_tools(hand), reason))
     print('written: %d files, %d bytes of data, %d of stdout' % (len(golden), sum(len(c[3]) for c, a in golden), sum(len(o) for o in out)))
 
 
@@ -131,16 +159,20 @@ setting, the length and the file's name; `stdout` has the name, the setting, the
 it. First come arguments that are no setting or no length. A name says what its case tests, so that the first line that
 differs explains itself. The answers were worked out from the rules and not taken from the program.
 
+The program lends a tally full of other numbers. A listing shows the figures of each tool that has hits; were a figure of
+another tool not zero, or after a refusal any figure, a line `TALLY NOT CLEARED` would follow, which `stdout` does not have.
+
 The table of cases is in `derive/`, each with what was worked out by hand: a refusal's number and line, or the count of
-entries and some of them. Beside it is an expander of its own, written from the rules alone, which gives all entries.
-`derive/check.py` compares the two, and `derive/check.py .` writes all files anew.
+entries and some of them, and in some the figures of every tool. Beside it is an expander of its own, written from the rules
+alone, which gives all entries and takes the tally from them. `derive/check.py` compares the two, and `derive/check.py .`
+writes all files anew.
 
 In the tables a slash stands for a line feed; a long text, or one with other bytes, is in its file. Lines count from 1,
 blank ones too. The setting is 1 and the list has 16,384 numbers, so places for 4,096 entries, unless something else stands
 before the answer. An answer is a refusal's number and line, or the entries: X, Y, tool, mode. A hit has mode P or N, a stop
 S, an optional stop O. In the last column a number before a colon is that refusal's; 000, 001 and 002 are the manuals.
-Document 01 is the specification, to which document 02 adds the decimal point setting, G66 and stops; the rules are in
-docs/PUNCH-CODE.md, where the cases named page-.. are worked out step by step.
+Document 01 is the specification, to which document 02 adds the decimal point setting, G66, stops and the tally; the rules
+are in docs/PUNCH-CODE.md, where the cases named page-.. are worked out step by step.
 '''
 
 

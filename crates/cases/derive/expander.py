@@ -1,7 +1,9 @@
-"""An expander of ARIES punch code, written from document 01, and from document 02 for the decimal point setting, G66 and stops.
+"""An expander of ARIES punch code, written from document 01, and from document 02 for the decimal point setting, G66, stops
+and the tally of hits by tool.
 
-expand(text, length, setting) answers (0, entries) or (number, line). An entry is a hit or a stop: X, Y, tool, mode. Whole
-numbers throughout; the sine tables come from fractions. Slow and plain on purpose: it is read beside the documents.
+expand(text, length, setting) answers (0, entries) or (number, line). An entry is a hit or a stop: X, Y, tool, mode.
+tally(entries) is taken from the finished list. Whole numbers throughout; the sine tables come from fractions. Slow and
+plain on purpose: it is read beside the documents.
 """
 import re
 from fractions import Fraction
@@ -604,10 +606,23 @@ def expand(text, length, setting=1):
     return Expander(text, length, setting).run()
 
 
+def tally(entries):
+    """Of each tool that has hits, in tool order: the tool, its hits, and the first and the last index where it stands.
+
+    Indexes are those of the list, from 1, stops counted. A stop is no tool's, its tool being zero."""
+    tools = []
+    for tool in range(1, 100):
+        indexes = [index for index, entry in enumerate(entries, 1) if entry[2] == tool]
+        if indexes:
+            tools.append((tool, len(indexes), indexes[0], indexes[-1]))
+    return tools
+
+
 def printed(answer):
     number, rest = answer
     if number:
         return 'REFUSED %d LINE %d\n' % (number, rest)
     lines = ['ENTRIES %d' % len(rest)]
     lines += ['%d %d %d %d %s' % ((n,) + entry) for n, entry in enumerate(rest, 1)]
+    lines += ['%d %d %d %d' % figures for figures in tally(rest)]
     return '\n'.join(lines) + '\n'

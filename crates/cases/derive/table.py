@@ -19,16 +19,20 @@ class R:
 
 
 class E:
-    """Entries: how many, and some of them by index from 1 (or -1 for the last), each X, Y, tool, mode."""
+    """Entries: how many, and some of them by index from 1 (or -1 for the last), each X, Y, tool, mode.
 
-    def __init__(self, count, some=None):
+    tools, where they were worked out as well: for every tool that has hits, how many, and the first and the last index where it
+    stands."""
+
+    def __init__(self, count, some=None, tools=None):
         self.count = count
         self.some = some or {}
+        self.tools = tools
 
 
-def all_of(*entries):
+def all_of(*entries, tools=None):
     """Every entry."""
-    return E(len(entries), dict(enumerate(entries, 1)))
+    return E(len(entries), dict(enumerate(entries, 1)), tools)
 
 
 def p(body, head=A222):

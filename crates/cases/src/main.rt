@@ -1,17 +1,28 @@
 // Runs the golden cases. The arguments are triples: the decimal point setting, the length of the lent list in numbers, and
 // the name of a file. For each triple the program prints the name, the setting and the length, and then the listing or the
-// refusal, as hitlist prints it.
+// refusal, as hitlist prints it, and a line more if the tally has figures other than zero that these do not show.
 use aries::answer::Answer;
 use libc::STDOUT_FILENO;
-ghost use Prim.Native.Nat.{suc, _*_, _≤_, _<_};
+use tallies::FIGURES;
+use tallies::LAST_TOOL;
+use tallies::TOOL_FIGURES;
+ghost use Prim.Native.Nat.{_≤_, _<_};
 ghost use lib.ListN.{length};
+ghost use Rattle.aries.specs.Numbers.{lastTool};
 ghost use Rattle.aries.specs.Program.{countOf};
+ghost use Rattle.printing.specs.Listing.{listingRoom};
 
 // What is read of a file: one byte more than a text may have is enough to refuse it.
 const MOST_READ: usize = 60_001;
 
 // The numbers of the longest list, which has places for 4,096 entries.
 const NUMBERS: usize = 16_384;
+
+// The longest listing: 72 bytes for the head, for each of 4,096 entries and for each of 99 tools.
+const LISTING: usize = 302_112;
+
+// What a tally is full of when it is lent: it makes no difference what that is.
+const STALE: u64 = 7;
 
 // The least setting, and its size, one more than that of the greatest.
 const LEAST: i32 = -2_147_483_648;
@@ -28,27 +39,70 @@ enum Stated {
 }
 
 // Prints a listing, or a refusal, through a buffer.
-fn print_through(out: &mut [u8], list: &[i32], answer: Answer)
-    requires { ⌜ 64 * suc (countOf answer) ≤ length (now out) ⌝ }
+fn print_through(out: &mut [u8], list: &[i32], tally: &[u64; FIGURES], answer: Answer)
+    requires { ⌜ listingRoom answer ≤ length (now out) ⌝ }
 {
-    let start = printing::render(out, list, answer);
+    let start = printing::render(out, list, tally, answer);
     io::write_all(STDOUT_FILENO, &out[start..]);
 }
 
 // Prints a listing of up to 4,096 entries, or a refusal.
-fn print_listing(list: &[i32], answer: Answer)
+fn print_listing(list: &[i32], tally: &[u64; FIGURES], answer: Answer)
     requires { ⌜ countOf answer ≤ 4096 ⌝ }
 {
-    let mut out = [0u8; 262208];
-    print_through(&mut out, list, answer);
+    let mut out = [0u8; LISTING];
+    print_through(&mut out, list, tally, answer);
+}
+
+// Whether a text was accepted.
+fn is_accepted(answer: Answer) -> bool {
+    match answer {
+        Answer::Entries(_) => true,
+        Answer::Refused(_, _) => false,
+    }
+}
+
+// Whether all figures of a tool that i others come before are shown or zero. A listing shows those of a tool with hits, a
+// refusal shows none.
+fn is_shown(tally: &[u64; FIGURES], i: usize, accepted: bool) -> bool
+    requires { ⌜ i < lastTool ⌝ }
+{
+    let at = TOOL_FIGURES * i;
+    if accepted & (tally[at] != 0) {
+        return true;
+    }
+    (tally[at] == 0) & (tally[at + 1] == 0) & (tally[at + 2] == 0)
+}
+
+// Whether all figures of a tally are shown or zero.
+fn is_all_shown(tally: &[u64; FIGURES], accepted: bool) -> bool {
+    let mut left = LAST_TOOL as usize;
+    while 0 < left {
+        left -= 1;
+        if !is_shown(tally, left, accepted) {
+            return false;
+        }
+    }
+    true
+}
+
+// Prints the answer of a text, and a line more if its tally has figures other than zero that the answer does not show.
+fn print_answer(list: &[i32], tally: &[u64; FIGURES], answer: Answer)
+    requires { ⌜ countOf answer ≤ 4096 ⌝ }
+{
+    print_listing(list, tally, answer);
+    if !is_all_shown(tally, is_accepted(answer)) {
+        io::write_all(STDOUT_FILENO, b"TALLY NOT CLEARED\n");
+    }
 }
 
 // Expands a text at a setting into a list and prints the answer.
 fn run(setting: i32, text: &[u8], list: &mut [i32])
     requires { ⌜ length (now list) ≤ 16384 ⌝ }
 {
-    let answer = tolkjirp::expand(setting, text, list);
-    print_listing(list, answer);
+    let mut tally = [STALE; FIGURES];
+    let answer = tolkjirp::expand(setting, text, list, &mut tally);
+    print_answer(list, &tally, answer);
 }
 
 // Expands a text into the first so many numbers of a list.

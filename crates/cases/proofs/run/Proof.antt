@@ -8,10 +8,10 @@ use Rattle.cases.proofs.run.Tie as tie
 expand-requires : tie.Need-expand-requires
 expand-requires c κs = search needs
 
-print-listing-requires : tie.Need-print-listing-requires
-print-listing-requires c κs =
-    let x = c .before .before .expand in
-    omega (arith, count-within (x .result) (x .last .1 .1 .0) _ _ (x .ensures) (search needs))
+print-answer-requires : tie.Need-print-answer-requires
+print-answer-requires c κs =
+    let x = c .before .before .before .expand in
+    omega (arith, count-within _ _ _ _ _ (x .ensures) (search needs))
 
 same-length : tie.Need-same-length
 same-length c = search needs
@@ -20,4 +20,4 @@ returns : tie.Need-returns
 returns c = search needs
 
 pub run-spec : {M : Type 1} → statement M
-run-spec = tie.close (tie.spec expand-requires print-listing-requires same-length returns)
+run-spec = tie.close (tie.spec expand-requires print-answer-requires same-length returns)
