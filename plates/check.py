@@ -4,14 +4,16 @@
     plates/check.py            each plate of this folder: its hits and stops are those of its drawing, no place is hit
                                twice with one tool, holes lie within the plate and beside its windows, no two of them
                                meet but the hits of a slot, and tools that cut an edge lie against it, the plate's
-                               from outside, a window's from inside
-    plates/check.py LISTING..  listings that hitlist printed (- for standard input): no place twice with one tool
+                               from outside, a window's from inside; README.md has its tools as hitlist prints them
+    plates/check.py LISTING..  listings that hitlist printed (- for standard input): no place twice with one tool, and the
+                               lines of tools are those of the entries
 
 It ends with 1 if something is wrong. The entries, hits and stops, are those of the expander in crates/cases/derive, so
 nothing has to be built; the golden cases hold the library to the same listings.
 """
 import math
 import os
+import re
 import sys
 
 HOME = os.path.dirname(os.path.abspath(__file__))
@@ -29,10 +31,21 @@ def is_stop(entry):
     return entry[3] in ('S', 'O')
 
 
+def tally_of(entries):
+    """Of each tool used, in tool order: the tool, its hits, and the first and the last index where it stands."""
+    indexes = {}
+    for index, entry in enumerate(entries, 1):
+        if not is_stop(entry):
+            indexes.setdefault(entry[2], []).append(index)
+    return [(tool, len(stands), stands[0], stands[-1]) for tool, stands in sorted(indexes.items())]
+
+
 def counted(entries):
-    """How many hits there are, and stops if there are any."""
+    """How many hits there are, by which tools, and stops if there are any."""
     stops = sum(map(is_stop, entries))
-    return '%d hits' % (len(entries) - stops) + (' and %d stop%s' % (stops, 's' if stops > 1 else '') if stops else '')
+    tools = ', '.join('T%d %d' % (tool, hits) for tool, hits, first, last in tally_of(entries))
+    hits = '%d hits' % (len(entries) - stops) + (' (%s)' % tools if tools else '')
+    return hits + (' and %d stop%s' % (stops, 's' if stops > 1 else '') if stops else '')
 
 
 def twice(entries):
@@ -98,6 +111,13 @@ def least_metal(drawing):
                for i, a in enumerate(holes) for b in holes[:i] if 'P' in (a[3], b[3]))
 
 
+def tools_shown(name):
+    """The lines of tools that README.md has for a plate."""
+    with open(os.path.join(HOME, 'README.md')) as file:
+        section = file.read().partition('## %s.nc\n' % name)[2].partition('\n## ')[0]
+    return [tuple(map(int, line.split())) for line in re.findall(r'^    ((?:\d+ ){3}\d+)$', section, re.M)]
+
+
 def check_plate(name, drawing):
     """What is wrong with a plate."""
     from expander import expand
@@ -111,6 +131,8 @@ def check_plate(name, drawing):
         said.append('the hits and stops are not those of the drawing')
     if least_metal(drawing) <= 0:
         said.append('two holes meet')
+    if tools_shown(name) != tally_of(drawing.drawn):
+        said.append('README.md has other lines of tools')
     golden = os.path.join(CASES, 'data', 'samples-%s.nc' % name)
     if os.path.exists(golden) and open(golden, 'rb').read() != text:
         said.append('crates/cases has another text: run derive/check.py there')
@@ -130,25 +152,36 @@ def check_plates():
     return wrong
 
 
-def entries_of(lines):
-    """The entries of a listing, or None where it is none or is cut short."""
+def entries_and_tools(lines):
+    """The entries of a listing and its lines of tools, or None where it is no listing or its entries are cut short."""
     try:
         head, count = lines[0].split()
-        entries = [(int(x), int(y), int(tool), mode) for index, x, y, tool, mode in (line.split() for line in lines[1:])]
+        behind = 1 + int(count)
+        entries = [(int(x), int(y), int(tool), mode) for index, x, y, tool, mode in (line.split() for line in lines[1:behind])]
+        tools = [(int(tool), int(hits), int(first), int(last))
+                 for tool, hits, first, last in (line.split() for line in lines[behind:])]
     except (IndexError, ValueError):
         return None
-    return entries if head == 'ENTRIES' and count == str(len(entries)) else None
+    return (entries, tools) if head == 'ENTRIES' and count == str(len(entries)) else None
+
+
+def miscounted(entries, tools):
+    """What is said of lines of tools that are not those of the entries."""
+    right = tally_of(entries)
+    said = ['the line %d %d %d %d of a tool is not that of the entries' % line for line in tools if line not in right]
+    said += ['the line %d %d %d %d of a tool is missing' % line for line in right if line not in tools]
+    return said or ([] if tools == right else ['the lines of tools are not in tool order, once each'])
 
 
 def check_listings(names):
     wrong = []
     for name in names:
         lines = (sys.stdin if name == '-' else open(name)).read().splitlines()
-        entries = entries_of(lines)
-        said = ['not a whole listing'] if entries is None else twice(entries)
+        listing = entries_and_tools(lines)
+        said = ['not a whole listing'] if listing is None else twice(listing[0]) + miscounted(*listing)
         wrong += ['%s: %s' % (name, what) for what in said]
         if not said:
-            print('%s: %s, no place twice' % (name, counted(entries)))
+            print('%s: %s, no place twice' % (name, counted(listing[0])))
     return wrong
 
 
