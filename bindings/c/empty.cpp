@@ -10,18 +10,28 @@
 
 static bool is_wrong = false;
 
-/* Expands a text into a list and holds the answer to three numbers. */
+/*
+ * Expands a text into a list and holds the answer to three numbers, and the
+ * tally to no hit, or to one by tool 1 that is the first entry.
+ */
 static void expect(const char *what, const std::vector<uint8_t> &text,
                    std::vector<int32_t> list, uint64_t refusal,
-                   uint64_t count, uint64_t line)
+                   uint64_t count, uint64_t line, uint64_t hits = 0)
 {
     const uint64_t expected[3] = {refusal, count, line};
+    const tolkjirp_tool tools[TOLKJIRP_TOOLS] = {{hits, hits, hits}};
     uint64_t answer[3] = {99, 99, 99};
+    tolkjirp_tool tally[TOLKJIRP_TOOLS];
 
+    std::memset(tally, 77, sizeof tally);
     tolkjirp_expand(TOLKJIRP_HUNDREDTHS, text.data(), text.size(), list.data(),
-                    list.size(), answer);
+                    list.size(), tally, answer);
     if (std::memcmp(answer, expected, sizeof answer) != 0) {
         std::printf("%s: %s\n", what, tolkjirp_refusal_text(answer[0]));
+        is_wrong = true;
+    }
+    if (std::memcmp(tally, tools, sizeof tally) != 0) {
+        std::printf("%s: the tally is another\n", what);
         is_wrong = true;
     }
 }
@@ -42,7 +52,7 @@ int main()
     expect("no list, no entry", no_entry, {}, TOLKJIRP_ACCEPTED, 0, 0);
     expect("no list, a hit", one_hit, {}, TOLKJIRP_LIST_FULL, 0, 2);
     expect("no list, a stop", one_stop, {}, TOLKJIRP_LIST_FULL, 0, 2);
-    expect("a hit", one_hit, {7, 7, 7, 7}, TOLKJIRP_ACCEPTED, 1, 0);
+    expect("a hit", one_hit, {7, 7, 7, 7}, TOLKJIRP_ACCEPTED, 1, 0, 1);
     expect("a stop", one_stop, {7, 7, 7, 7}, TOLKJIRP_ACCEPTED, 1, 0);
     return is_wrong;
 }

@@ -1,5 +1,5 @@
 /*
- * Expands a plate and prints its entries as hitlist does.
+ * Expands a plate and prints its entries and the tools used as hitlist does.
  *
  *     example         a line of three holes, and a stop
  *     example FILE    the program text in a file
@@ -38,6 +38,7 @@ static const char plate[] =
 
 static uint8_t text[TEXT_LENGTH];
 static int32_t list[LIST_LENGTH];
+static struct tolkjirp_tool tally[TOLKJIRP_TOOLS];
 
 /* Says what failed, and why. */
 static enum status fail(const char *what)
@@ -71,6 +72,17 @@ static void print_entries(uint64_t count)
     }
 }
 
+/* Prints a line for each tool that makes hits. */
+static void print_tools(void)
+{
+    for (int number = 1; number <= TOLKJIRP_TOOLS; number++) {
+        const struct tolkjirp_tool *tool = &tally[number - 1];
+        if (tool->hits > 0)
+            printf("%d %" PRIu64 " %" PRIu64 " %" PRIu64 "\n",
+                   number, tool->hits, tool->first, tool->last);
+    }
+}
+
 static void print_refusal(uint64_t refusal, uint64_t line)
 {
     printf("REFUSED %" PRIu64 " LINE %" PRIu64 "\n", refusal, line);
@@ -82,11 +94,13 @@ static enum status expand(int32_t setting, size_t length)
 {
     uint64_t answer[3];
 
-    tolkjirp_expand(setting, text, length, list, LIST_LENGTH, answer);
-    if (answer[TOLKJIRP_REFUSAL] == TOLKJIRP_ACCEPTED)
+    tolkjirp_expand(setting, text, length, list, LIST_LENGTH, tally, answer);
+    if (answer[TOLKJIRP_REFUSAL] == TOLKJIRP_ACCEPTED) {
         print_entries(answer[TOLKJIRP_COUNT]);
-    else
+        print_tools();
+    } else {
         print_refusal(answer[TOLKJIRP_REFUSAL], answer[TOLKJIRP_LINE]);
+    }
     if (fflush(stdout) != 0 || ferror(stdout))
         return fail("the list is cut short");
     return answer[TOLKJIRP_REFUSAL] == TOLKJIRP_ACCEPTED ? IS_ACCEPTED

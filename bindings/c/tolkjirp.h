@@ -15,8 +15,12 @@
 extern "C" {
 #endif
 
-/* The version of this header and of the library that it comes with. */
-#define TOLKJIRP_VERSION "0.5.0"
+/*
+ * The version of this header and of the library that it comes with. A program is
+ * to be compiled with the header of the library that it is linked with: the
+ * function of an older one has the same name and other parameters.
+ */
+#define TOLKJIRP_VERSION "0.6.0"
 
 /* The most bytes that a text may have; a longer one is refused. */
 #define TOLKJIRP_LONGEST_TEXT 60000
@@ -44,6 +48,29 @@ enum tolkjirp_mode {
     TOLKJIRP_OPTIONAL_STOP = 3 /* no hit: the press stops if its optional stop
                                   is switched on, M01 */
 };
+
+/* How many tools there are; they have the numbers 1 to 99. */
+#define TOLKJIRP_TOOLS 99
+
+/*
+ * What a tally has of one tool; all three are zero if the tool makes no hit. A
+ * tally is an array of TOLKJIRP_TOOLS of them, tool 1 first: tool t is
+ * tally[t - 1]. The tool 0 of a stop has none.
+ *
+ * Indexes are those of entries in the list, from 1, and stops have indexes too:
+ * the entry with index i begins at list[TOLKJIRP_NUMBERS_PER_ENTRY * (i - 1)].
+ */
+struct tolkjirp_tool {
+    uint64_t hits;  /* how many hits it makes */
+    uint64_t first; /* the index of its first hit */
+    uint64_t last;  /* the index of its last hit */
+};
+
+/* The library has a tally as 297 numbers, without gaps between them. */
+typedef char tolkjirp_tally_has_297_numbers
+    [sizeof(struct tolkjirp_tool[TOLKJIRP_TOOLS]) == 297 * sizeof(uint64_t)
+         ? 1
+         : -1];
 
 /* What the three numbers of an answer are. */
 #define TOLKJIRP_REFUSAL 0 /* the refusal, 1 to 18; 0 if the text is accepted */
@@ -125,7 +152,7 @@ static inline const char *tolkjirp_refusal_text(uint64_t refusal)
 }
 
 /*
- * Expands a program text into a list of entries.
+ * Expands a program text into a list of entries, with a tally of their hits.
  *
  * setting              The decimal point setting of the whole text, as named
  *                      above: 0; any other number counts as 1.
@@ -140,10 +167,15 @@ static inline const char *tolkjirp_refusal_text(uint64_t refusal)
  *                      or 3 for an optional stop). Fewer than four numbers at
  *                      the end are no place for an entry. What the list holds
  *                      before the call does not matter.
+ * tally                The hits of each tool, and the first and the last index
+ *                      where it stands. What it holds before the call does not
+ *                      matter. It is always written, so it may not be null.
  * answer               Three numbers, as named above.
  *
  * After the call, the first 4 * answer[TOLKJIRP_COUNT] numbers of the list are
- * the entries in order and the others are zero; after a refusal all are zero.
+ * the entries in order and the others are zero, and the hits of all tools add
+ * up to the entries that are not stops. After a refusal all of the list and of
+ * the tally is zero.
  *
  * With a length of 0 the pointer is not used, and may be null, as that of an
  * empty std::vector: an empty text is refused by TOLKJIRP_TEXT_LENGTH, and an
@@ -151,21 +183,23 @@ static inline const char *tolkjirp_refusal_text(uint64_t refusal)
  *
  * The caller ensures that
  * - text points to text_length readable bytes,
- * - list points to list_length writable numbers, and answer to three,
- * - list and answer are aligned for their types,
- * - text, list and answer do not overlap,
+ * - list points to list_length writable numbers, tally to 99 writable records,
+ *   and answer to three writable numbers,
+ * - list, tally and answer are aligned for their types,
+ * - text, list, tally and answer do not overlap,
  * - neither the text nor the list spans more than PTRDIFF_MAX bytes,
- * - no other thread uses the list or the answer, or changes the text, during
- *   the call.
+ * - no other thread uses the list, the tally or the answer, or changes the
+ *   text, during the call.
  *
- * The function keeps no state: calls with lists and answers of their own may
- * run at the same time. It allocates nothing. It uses up to 84 kB of the stack,
- * whatever the text; that is measured and not proved, so a thread of its own
- * should have 128 kB or more.
+ * The function keeps no state: calls with lists, tallies and answers of their
+ * own may run at the same time. It allocates nothing. It uses up to 84 kB of
+ * the stack, whatever the text; that is measured and not proved, so a thread of
+ * its own should have 128 kB or more.
  */
 void tolkjirp_expand(int32_t setting,
                      const uint8_t *text, size_t text_length,
                      int32_t *list, size_t list_length,
+                     struct tolkjirp_tool tally[TOLKJIRP_TOOLS],
                      uint64_t answer[3]);
 
 #ifdef __cplusplus

@@ -1,5 +1,5 @@
-//! Expands a plate and prints its entries as `hitlist` does: that of a file, or a tip rack of eight by twelve holes,
-//! twice on the sheet, with a stop behind each.
+//! Expands a plate and prints its entries and the tools used as `hitlist` does: that of a file, or a tip rack of eight by
+//! twelve holes, twice on the sheet, with a stop behind each.
 //!
 //! `plate [FILE]` goes by decimal point setting 1, `plate -0 [FILE]` by setting 0, at which X100 is 100 mm.
 
@@ -8,7 +8,7 @@ use std::io::{self, BufWriter, Write};
 use std::process::ExitCode;
 use std::{env, fs};
 
-use tolkjirp::{expand, Entry, Setting};
+use tolkjirp::{expand, Expansion, Setting};
 
 const PLATE: &str = "\
 G92 X600. Y600.
@@ -43,15 +43,18 @@ fn run() -> Result<(), Box<dyn Error>> {
         [name] => fs::read(name)?,
         _ => return Err("usage: plate [-0] [FILE]".into()),
     };
-    print_entries(&expand(setting, &text, 4096)?)?;
+    print(&expand(setting, &text, 4096)?)?;
     Ok(())
 }
 
-fn print_entries(entries: &[Entry]) -> io::Result<()> {
+fn print(Expansion { entries, tally }: &Expansion) -> io::Result<()> {
     let mut out = BufWriter::new(io::stdout().lock());
     writeln!(out, "ENTRIES {}", entries.len())?;
     for (index, entry) in entries.iter().enumerate() {
         writeln!(out, "{} {entry}", index + 1)?;
+    }
+    for (number, tool) in tally.used() {
+        writeln!(out, "{number} {tool}")?;
     }
     out.flush()
 }

@@ -1,19 +1,24 @@
 //! Safe Rust interface to the proved expander of ARIES punch code.
 //!
 //! A program text goes in, with the decimal point setting that it is written for; the list of entries for the press
-//! comes out, or a refusal with its line. An entry is a hit, or a stop: that of M00, or the optional one of M01.
+//! comes out, with the tally of its hits by tool, or a refusal with its line. An entry is a hit, or a stop: that of M00,
+//! or the optional one of M01.
 //!
 //! ```
-//! use tolkjirp::{expand, Entry, Hit, Mode, Setting};
+//! use tolkjirp::{expand, Entry, Hit, Mode, Setting, Tool};
 //!
 //! let text = b"G92 X600. Y600.\nG90 X100. Y100. T2\nG28 I10. J45. K2\nM00\nG50\n";
-//! let entries = expand(Setting::Hundredths, text, 4096)?;
+//! let expansion = expand(Setting::Hundredths, text, 4096)?;
+//! let entries = &expansion.entries;
 //! assert_eq!(entries.len(), 4);
 //! assert_eq!(entries[1], Entry::Hit(Hit { x: 10707, y: 10707, tool: 2, mode: Mode::Punch }));
 //! assert_eq!(entries[3], Entry::Stop { optional: false });
 //!
+//! let used: Vec<_> = expansion.tally.used().collect();
+//! assert_eq!(used, [(2, Tool { hits: 3, first: 1, last: 3 })]);
+//!
 //! let in_millimetres = b"G92 X600 Y600\nG90 X100 Y100 T2\nG28 I10 J45 K2\nM00\nG50\n";
-//! assert_eq!(expand(Setting::Millimetres, in_millimetres, 4096)?, entries);
+//! assert_eq!(expand(Setting::Millimetres, in_millimetres, 4096)?, expansion);
 //! # Ok::<(), tolkjirp::Failure>(())
 //! ```
 //!
@@ -25,14 +30,25 @@ mod failure;
 mod library;
 mod refusal;
 mod setting;
+mod tally;
 
 pub use entry::{Entries, Entry, Hit, Mode, NUMBERS_PER_ENTRY};
 pub use failure::Failure;
 pub use refusal::{NoSuchRefusal, Refusal, Refused};
 pub use setting::Setting;
+pub use tally::{Tally, Tool, TOOLS};
 
 /// The most bytes that a text may have; a longer one is refused.
 pub const LONGEST_TEXT: usize = 60_000;
+
+/// What an accepted text comes to.
+#[derive(Clone, Debug, PartialEq, Eq, Hash)]
+pub struct Expansion {
+    /// The list, in order; the entry with index i stands at `entries[i - 1]`.
+    pub entries: Vec<Entry>,
+    /// Its hits by tool.
+    pub tally: Tally,
+}
 
 /// Expands a program text at a setting, with places for so many entries.
 ///
@@ -48,13 +64,14 @@ pub const LONGEST_TEXT: usize = 60_000;
 /// let failure = expand(Setting::Hundredths, b"G92 X600. Y600.\nG50\n", usize::MAX).unwrap_err();
 /// assert_eq!(failure, Failure::NoMemory);
 /// ```
-pub fn expand(setting: Setting, text: &[u8], places: usize) -> Result<Vec<Entry>, Failure> {
+pub fn expand(setting: Setting, text: &[u8], places: usize) -> Result<Expansion, Failure> {
     let mut list = zeros(places)?;
-    let entries = expand_into(setting, text, &mut list)?;
+    let mut tally = Tally::new();
+    let entries = expand_into(setting, text, &mut list, &mut tally)?;
     let mut taken = Vec::new();
     taken.try_reserve_exact(entries.len()).map_err(|_| Failure::NoMemory)?;
     taken.extend(entries);
-    Ok(taken)
+    Ok(Expansion { entries: taken, tally })
 }
 
 /// A list with places for so many entries.
@@ -66,17 +83,21 @@ fn zeros(places: usize) -> Result<Vec<i32>, Failure> {
     Ok(list)
 }
 
-/// Expands a program text at a setting into a lent list, and gives the entries in it; nothing is allocated.
+/// Expands a program text at a setting into a lent list and a lent tally, and gives the entries in the list; nothing is
+/// allocated.
 ///
 /// An entry takes four numbers: X, Y, tool and mode (0 punching, 1 nibbling, 2 a stop, 3 an optional stop). X, Y and
-/// tool of a stop are zero. The numbers after the entries, and after a refusal all numbers, are zero. Fewer than four
-/// numbers at the end of the list are no place for an entry.
+/// tool of a stop are zero. The numbers after the entries are zero, and after a refusal all numbers and all of the tally.
+/// Fewer than four numbers at the end of the list are no place for an entry. What list and tally hold before does not
+/// matter, so that both may be used again for the next text.
 ///
 /// ```
-/// use tolkjirp::{expand_into, Entry, Refusal, Setting};
+/// use tolkjirp::{expand_into, Entry, Refusal, Setting, Tally, Tool};
 ///
 /// let mut list = [-1; 10];
-/// let entries = expand_into(Setting::Hundredths, b"G92 X600. Y600.\nM01\nX10. T2\nG50", &mut list)?;
+/// let mut tally = Tally::new();
+/// let text = b"G92 X600. Y600.\nM01\nX10. T2\nG50";
+/// let entries = expand_into(Setting::Hundredths, text, &mut list, &mut tally)?;
 /// assert_eq!(entries.len(), 2);
 /// for entry in entries {
 ///     match entry {
@@ -85,20 +106,34 @@ fn zeros(places: usize) -> Result<Vec<i32>, Failure> {
 ///     }
 /// }
 /// assert_eq!(list, [0, 0, 0, 3, 1000, 60000, 2, 0, 0, 0]);
+/// assert_eq!(tally.tool(2), Some(Tool { hits: 1, first: 2, last: 2 }));
 ///
-/// let refused = expand_into(Setting::Hundredths, b"G92 X600. Y600.\nM00\nX10.\nG50", &mut list).unwrap_err();
-/// assert_eq!((refused.refusal, refused.line), (Refusal::NoTool, 3));
+/// let text = b"G92 X600. Y600.\nX10. T2\nY-99.\nG50";
+/// let refused = expand_into(Setting::Hundredths, text, &mut list, &mut tally).unwrap_err();
+/// assert_eq!((refused.refusal, refused.line), (Refusal::OutOfRange, 3));
 /// assert_eq!(list, [0; 10]);
+/// assert_eq!(tally, Tally::new());
 /// # Ok::<(), tolkjirp::Refused>(())
 /// ```
-pub fn expand_into<'a>(setting: Setting, text: &[u8], list: &'a mut [i32]) -> Result<Entries<'a>, Refused> {
+pub fn expand_into<'a>(
+    setting: Setting,
+    text: &[u8],
+    list: &'a mut [i32],
+    tally: &mut Tally,
+) -> Result<Entries<'a>, Refused> {
     let most = list.len() / NUMBERS_PER_ENTRY;
-    match library::call(setting.number(), text, list) {
-        [0, count, 0] => match usize::try_from(count) {
-            Ok(count) if count <= most => Ok(Entries::first(list, count)),
-            _ => panic!("the library counts {count} entries in a list for {most}"),
+    match library::call(setting.number(), text, list, tally) {
+        [0, entries, 0] => match usize::try_from(entries) {
+            Ok(count) if count <= most => {
+                tally.check(entries);
+                Ok(Entries::first(list, count))
+            }
+            _ => panic!("the library counts {entries} entries in a list for {most}"),
         },
-        [number, 0, line] => Err(Refused::from_numbers(number, line)),
+        [number, 0, line] => {
+            tally.check(0);
+            Err(Refused::from_numbers(number, line))
+        }
         answer => panic!("the library answers {answer:?}"),
     }
 }

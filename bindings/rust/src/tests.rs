@@ -1,3 +1,5 @@
+use std::mem::offset_of;
+
 use super::Setting::{Hundredths, Millimetres};
 use super::*;
 
@@ -8,14 +10,35 @@ fn program(blocks: &str) -> Vec<u8> {
 
 /// The hits of a text at a setting, with places for so many entries and no stop among them.
 fn hits(setting: Setting, text: &[u8], places: usize) -> Vec<Hit> {
-    let entries = expand(setting, text, places).unwrap();
+    let entries = expand(setting, text, places).unwrap().entries;
     entries.iter().map(|entry| entry.hit().expect("no stop")).collect()
+}
+
+/// The entries of a text in a lent list.
+fn expand_list<'a>(setting: Setting, text: &[u8], list: &'a mut [i32]) -> Result<Entries<'a>, Refused> {
+    expand_into(setting, text, list, &mut Tally::new())
 }
 
 /// The entries of blocks as they are printed.
 fn printed(blocks: &str) -> Vec<String> {
-    let entries = expand(Hundredths, &program(blocks), 4096).unwrap();
+    let entries = expand(Hundredths, &program(blocks), 4096).unwrap().entries;
     entries.iter().map(Entry::to_string).collect()
+}
+
+/// The tools that blocks use, as they are printed.
+fn printed_tools(blocks: &str) -> Vec<String> {
+    let tally = expand(Hundredths, &program(blocks), 4096).unwrap().tally;
+    tally.used().map(|(number, tool)| format!("{number} {tool}")).collect()
+}
+
+/// A tally full of other numbers.
+fn other_numbers() -> Tally {
+    let tool = Tool {
+        hits: u64::MAX,
+        first: 7,
+        last: 77,
+    };
+    Tally { tools: [tool; TOOLS] }
 }
 
 /// The refusal of a text, with places for so many entries.
@@ -127,7 +150,9 @@ fn stops_are_entries() {
     let stop = Entry::Stop { optional: false };
     let optional_stop = Entry::Stop { optional: true };
     // without a tool, by any writing of the code
-    let entries = expand(Hundredths, &program("M00\nM01\nM0\nN7 M 001\nM08"), 4).unwrap();
+    let entries = expand(Hundredths, &program("M00\nM01\nM0\nN7 M 001\nM08"), 4)
+        .unwrap()
+        .entries;
     assert_eq!(entries, [stop, optional_stop, stop, optional_stop]);
     assert_eq!(entries.into_iter().filter_map(Entry::hit).count(), 0);
     // a waiting origin stays, and so does the mode
@@ -151,7 +176,7 @@ fn stops_are_not_moved_with_their_part() {
 fn a_stop_needs_a_place() {
     let text = program("X1. T2\nM00\n\nM01");
     let mut list = [-1; 12];
-    assert_eq!(expand_into(Hundredths, &text, &mut list).unwrap().len(), 3);
+    assert_eq!(expand_list(Hundredths, &text, &mut list).unwrap().len(), 3);
     assert_eq!(list, [100, 60_000, 2, 0, 0, 0, 0, 2, 0, 0, 0, 3]);
     let list_full = |line| Refused {
         refusal: Refusal::ListFull,
@@ -181,14 +206,14 @@ fn lengths_and_angles_without_a_point_go_by_the_setting() {
 fn a_rack_in_whole_millimetres_is_the_same_rack() {
     let with_points = "G92 X600. Y600.\nX50. Y50. T2\nG36 I9. P11 J9. K7\nG50\n";
     let without = with_points.replace('.', "");
-    let entries = expand(Hundredths, with_points.as_bytes(), 96).unwrap();
-    assert_eq!(expand(Millimetres, with_points.as_bytes(), 96).unwrap(), entries);
-    assert_eq!(expand(Millimetres, without.as_bytes(), 96).unwrap(), entries);
+    let expansion = expand(Hundredths, with_points.as_bytes(), 96).unwrap();
+    assert_eq!(expand(Millimetres, with_points.as_bytes(), 96).unwrap(), expansion);
+    assert_eq!(expand(Millimetres, without.as_bytes(), 96).unwrap(), expansion);
 }
 
 #[test]
 fn lengths_past_the_limit_are_refused_at_setting_0() {
-    let answer = |blocks| expand_into(Millimetres, &program(blocks), &mut []).map(|entries| entries.len());
+    let answer = |blocks| expand_list(Millimetres, &program(blocks), &mut []).map(|entries| entries.len());
     assert_eq!(answer("G72 X9999 Y-009999"), Ok(0));
     let refused = Refused {
         refusal: Refusal::NumberRange,
@@ -221,9 +246,9 @@ fn a_text_of_wrong_length_has_no_line() {
 
 #[test]
 fn empty_lists_are_allowed() {
-    assert_eq!(expand_into(Hundredths, &program(""), &mut []).unwrap().len(), 0);
+    assert_eq!(expand_list(Hundredths, &program(""), &mut []).unwrap().len(), 0);
     for block in ["X1. T2", "M00", "M01"] {
-        let refused = expand_into(Hundredths, &program(block), &mut []).unwrap_err();
+        let refused = expand_list(Hundredths, &program(block), &mut []).unwrap_err();
         assert_eq!(refused.refusal, Refusal::ListFull, "{block}");
     }
 }
@@ -232,21 +257,21 @@ fn empty_lists_are_allowed() {
 fn the_rest_of_the_list_is_zero() {
     let mut list = [-1; 11];
     assert_eq!(
-        expand_into(Hundredths, &program("X1. Y2. T3"), &mut list)
+        expand_list(Hundredths, &program("X1. Y2. T3"), &mut list)
             .unwrap()
             .len(),
         1
     );
     assert_eq!(list, [100, 200, 3, 0, 0, 0, 0, 0, 0, 0, 0]);
     let mut list = [-1; 7];
-    assert!(expand_into(Hundredths, &program("X1. Y2. T3\nX2."), &mut list).is_err());
+    assert!(expand_list(Hundredths, &program("X1. Y2. T3\nX2."), &mut list).is_err());
     assert_eq!(list, [0; 7]);
 }
 
 #[test]
 fn entries_are_read_from_the_list() {
     let mut list = [-1; 18];
-    let entries = expand_into(Hundredths, &program("X1. Y2. T3\nM12\nM01\nX4."), &mut list).unwrap();
+    let entries = expand_list(Hundredths, &program("X1. Y2. T3\nM12\nM01\nX4."), &mut list).unwrap();
     assert_eq!(entries.len(), 3);
     let first = Hit {
         x: 100,
@@ -278,10 +303,177 @@ fn a_thread_of_128_kb_is_enough() {
     let thread = std::thread::Builder::new().stack_size(128_000);
     let run = move || {
         let mut list = [0; 64];
-        let refused = expand_into(Hundredths, &program(nested), &mut list).unwrap_err();
+        let refused = expand_list(Hundredths, &program(nested), &mut list).unwrap_err();
         (refused.refusal, refused.line)
     };
     assert_eq!(thread.spawn(run).unwrap().join().unwrap(), (Refusal::TooManyCalls, 4));
+}
+
+#[test]
+fn tools_have_their_hits_and_indexes() {
+    assert_eq!(printed_tools(""), [""; 0]);
+    assert_eq!(printed_tools("M00\nG70 X1. T2"), [""; 0]);
+    assert_eq!(printed_tools("X1. T3\nX2."), ["3 2 1 2"]);
+    // stops have indexes and are not counted
+    assert_eq!(
+        printed_tools("M00\nX1. T99\nM01\nX2. T1\nX3.\nM00\nX4. T99\nM00"),
+        ["1 2 4 5", "99 2 2 7"]
+    );
+}
+
+#[test]
+fn copies_change_tools_too() {
+    let part = "G98 X20. Y100. I250. P1\nU1\nX10. Y10.\nM00\nG28 I1. J0 K3 T5\nV1";
+    assert_eq!(
+        printed_tools(&format!("X1. T2\n{part}\nG75 W1 Q2")),
+        ["2 3 1 7", "5 6 4 11"]
+    );
+}
+
+#[test]
+fn all_tools_have_a_place() {
+    let blocks: String = (1..=99).rev().map(|tool| format!("X{tool}. T{tool}\n")).collect();
+    let tally = expand(Hundredths, &program(&blocks), 99).unwrap().tally;
+    assert_eq!(tally.hits(), 99);
+    assert!(tally.used().map(|(number, _)| number).eq(1..=99));
+    for number in 1..=99 {
+        let index = 100 - u64::from(number);
+        let tool = Tool {
+            hits: 1,
+            first: index,
+            last: index,
+        };
+        assert_eq!(tally.tool(number), Some(tool));
+        assert_eq!(tally.tools[usize::from(number) - 1], tool);
+    }
+}
+
+#[test]
+fn other_numbers_than_1_to_99_are_no_tools() {
+    let tally = expand(Hundredths, &program("X1. T99"), 1).unwrap().tally;
+    for number in [0, 100, 255] {
+        assert_eq!(tally.tool(number), None);
+    }
+    assert_eq!(tally.tool(98), Some(Tool::default()));
+}
+
+#[test]
+fn a_tool_is_found_where_its_indexes_say() {
+    let text = program("M00\nX1. T4\nM01\nG28 I1. J0 K3 T9\nX2. T4\nM00");
+    let Expansion { entries, tally } = expand(Hundredths, &text, 10).unwrap();
+    let tools: Vec<_> = entries.iter().map(|entry| entry.hit().map(|hit| hit.tool)).collect();
+    for (number, tool) in tally.used() {
+        assert_eq!(
+            tools.iter().position(|&tool| tool == Some(number)),
+            Some(tool.first as usize - 1)
+        );
+        assert_eq!(
+            tools.iter().rposition(|&tool| tool == Some(number)),
+            Some(tool.last as usize - 1)
+        );
+        assert_eq!(
+            tools.iter().filter(|&&tool| tool == Some(number)).count(),
+            tool.hits as usize
+        );
+    }
+    assert_eq!(tally.hits() as usize, entries.len() - 3);
+}
+
+#[test]
+fn what_a_tally_held_before_does_not_matter() {
+    let mut tally = other_numbers();
+    let mut list = [-1; 8];
+    let text = program("X1. T2\nM00");
+    assert_eq!(expand_into(Hundredths, &text, &mut list, &mut tally).unwrap().len(), 2);
+    let mut expected = Tally::new();
+    expected.tools[1] = Tool {
+        hits: 1,
+        first: 1,
+        last: 1,
+    };
+    assert_eq!(tally, expected);
+    assert_eq!(tally, expand(Hundredths, &text, 2).unwrap().tally);
+}
+
+#[test]
+fn after_a_refusal_a_tally_has_no_hits() {
+    for (text, number) in [
+        (program("X1. T2\nX2. T3\nX700."), 16),
+        (program("X1. T2\nX2.\nX3. T3"), 17),
+        (program("X1. T2\nG50"), 7),
+        (program("?"), 2),
+        (Vec::new(), 1),
+    ] {
+        let mut tally = other_numbers();
+        let refused = expand_into(Hundredths, &text, &mut [-1; 8], &mut tally).unwrap_err();
+        assert_eq!(refused.refusal.number(), number);
+        assert_eq!(tally, Tally::new());
+    }
+}
+
+#[test]
+fn a_tally_shows_the_tools_used() {
+    assert_eq!(format!("{:?}", Tally::default()), "{}");
+    let tally = expand(Hundredths, &program("X1. T2\nX2. T1"), 2).unwrap().tally;
+    assert_eq!(
+        format!("{tally:?}"),
+        "{1: Tool { hits: 1, first: 2, last: 2 }, 2: Tool { hits: 1, first: 1, last: 1 }}"
+    );
+}
+
+/// A tally in which tool 3 has these figures.
+fn third_tool(hits: u64, first: u64, last: u64) -> Tally {
+    let mut tally = Tally::new();
+    tally.tools[2] = Tool { hits, first, last };
+    tally
+}
+
+#[test]
+fn figures_that_a_list_can_have_are_taken() {
+    Tally::new().check(0);
+    Tally::new().check(5);
+    for (hits, first, last) in [(1, 1, 1), (1, 5, 5), (2, 1, 5), (5, 1, 5), (2, 4, 5)] {
+        third_tool(hits, first, last).check(5);
+    }
+}
+
+#[test]
+fn figures_that_no_list_has_are_caught() {
+    for (hits, first, last) in [
+        (0, 1, 1),
+        (0, 0, 1),
+        (1, 0, 0),
+        (1, 0, 1),
+        (1, 1, 2),
+        (1, 6, 6),
+        (2, 3, 3),
+        (2, 4, 3),
+        (3, 3, 4),
+        (2, 0, 1),
+        (2, 5, 6),
+        (6, 1, 5),
+        (u64::MAX, 7, 77),
+    ] {
+        let tally = third_tool(hits, first, last);
+        let checked = std::panic::catch_unwind(|| tally.check(5));
+        let message = checked.expect_err(&format!("{tally:?}"));
+        let expected = format!("the library gives tool 3 the figures {hits} {first} {last} among 5 entries");
+        assert_eq!(message.downcast_ref(), Some(&expected));
+    }
+}
+
+#[test]
+#[should_panic(expected = "counts 6 hits among 5 entries")]
+fn more_hits_than_entries_are_caught() {
+    let mut tally = third_tool(3, 1, 5);
+    tally.tools[98] = tally.tools[2];
+    tally.check(5);
+}
+
+#[test]
+#[should_panic(expected = "gives tool 3 the figures 1 1 1 among 0 entries")]
+fn hits_after_a_refusal_are_caught() {
+    third_tool(1, 1, 1).check(0);
 }
 
 /// The header for C, which says some things once more.
@@ -323,6 +515,16 @@ fn the_header_has_the_same_entries() {
         let entry = Entry::from_numbers(&numbers);
         assert_eq!(entry.to_string(), format!("{x} {y} {tool} {letter}"));
     }
+}
+
+#[test]
+fn the_header_has_the_same_tally() {
+    assert!(HEADER.contains(&format!("#define TOLKJIRP_TOOLS {TOOLS}\n")));
+    let fields = ["hits", "first", "last"].map(|name| format!("    uint64_t {name};"));
+    let places = fields.map(|field| HEADER.find(&field).expect(&field));
+    assert!(places.is_sorted(), "{places:?}");
+    let places = [offset_of!(Tool, hits), offset_of!(Tool, first), offset_of!(Tool, last)];
+    assert_eq!(places, [0, 8, 16]);
 }
 
 /// A name such as TextLength as TEXT_LENGTH.

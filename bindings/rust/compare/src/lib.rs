@@ -1,6 +1,7 @@
 //! Compares the proved expander with the plain one: texts to try, and the comparison of two answers.
 
 pub mod arguments;
+pub mod census;
 pub mod clock;
 pub mod damage;
 pub mod libraries;
@@ -14,4 +15,5 @@ pub mod scribe;
 pub mod shears;
 pub mod stops;
 pub mod tally;
+pub mod tools;
 pub mod workloads;

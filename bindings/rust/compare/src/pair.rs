@@ -2,12 +2,10 @@
 
 use std::fmt::Write;
 
-use tolkjirp::{Setting, NUMBERS_PER_ENTRY};
+use tolkjirp::{Setting, Tool, NUMBERS_PER_ENTRY, TOOLS};
 
 use crate::libraries;
-
-/// The least mode of stops; hits have smaller ones.
-const FIRST_STOP_MODE: i32 = 2;
+use crate::tally::{self, is_stop, Tally};
 
 /// The three numbers of an answer.
 #[derive(Clone, Copy, Debug, PartialEq, Eq)]
@@ -23,33 +21,39 @@ pub struct Answer {
 #[derive(Clone, Copy)]
 pub struct Expander {
     pub name: &'static str,
-    /// Expands a text at the setting that a number states.
-    pub expand: fn(i32, &[u8], &mut [i32]) -> Answer,
+    /// Expands a text, at the setting that a number states, into a list and a tally.
+    pub expand: fn(i32, &[u8], &mut [i32], &mut Tally) -> Answer,
+    /// Whether it writes the tally.
+    pub has_tally: bool,
 }
 
 /// The proved library.
 pub const LIBRARY: Expander = Expander {
     name: "library",
     expand: library,
+    has_tally: true,
 };
 
 /// The expander in plain Rust.
 pub const PLAIN: Expander = Expander {
     name: "plain",
     expand: plain,
+    has_tally: true,
 };
 
 /// What the proved library answers: by its safe interface at setting 0 and 1, by its function at other numbers.
-pub fn library(setting: i32, text: &[u8], list: &mut [i32]) -> Answer {
+pub fn library(setting: i32, text: &[u8], list: &mut [i32], tally: &mut Tally) -> Answer {
     match setting {
-        0 => safe_library(Setting::Millimetres, text, list),
-        1 => safe_library(Setting::Hundredths, text, list),
-        _ => libraries::function(setting, text, list),
+        0 => safe_library(Setting::Millimetres, text, list, tally),
+        1 => safe_library(Setting::Hundredths, text, list, tally),
+        _ => libraries::function(setting, text, list, tally),
     }
 }
 
-fn safe_library(setting: Setting, text: &[u8], list: &mut [i32]) -> Answer {
-    match tolkjirp::expand_into(setting, text, list) {
+fn safe_library(setting: Setting, text: &[u8], list: &mut [i32], tally: &mut Tally) -> Answer {
+    let tools = tally.map(|[hits, first, last]| Tool { hits, first, last });
+    let mut lent = tolkjirp::Tally { tools };
+    let answer = match tolkjirp::expand_into(setting, text, list, &mut lent) {
         Ok(entries) => Answer {
             number: 0,
             count: entries.len(),
@@ -60,12 +64,14 @@ fn safe_library(setting: Setting, text: &[u8], list: &mut [i32]) -> Answer {
             count: 0,
             line: refused.line,
         },
-    }
+    };
+    *tally = lent.tools.map(|tool| [tool.hits, tool.first, tool.last]);
+    answer
 }
 
 /// What the plain expander answers.
-pub fn plain(setting: i32, text: &[u8], list: &mut [i32]) -> Answer {
-    match plain::expand(setting, text, list) {
+pub fn plain(setting: i32, text: &[u8], list: &mut [i32], tally: &mut Tally) -> Answer {
+    match plain::expand(setting, text, list, tally) {
         plain::Answer::Entries(count) => Answer {
             number: 0,
             count,
@@ -75,16 +81,16 @@ pub fn plain(setting: i32, text: &[u8], list: &mut [i32]) -> Answer {
     }
 }
 
-/// A setting, text and list length for which the library and another expander differ.
+/// A setting, text and list length for which the library and another expander differ, or the tally is wrong.
 pub struct Difference {
     pub setting: i32,
-    pub text: Vec<u8>,
+    pub text: Box<[u8]>,
     pub list_length: usize,
     pub library: Answer,
     /// The other's name and answer.
     pub other: (&'static str, Answer),
-    /// The first place at which the lists differ.
-    pub place: Option<usize>,
+    /// What is wrong besides the answers.
+    pub faults: Vec<String>,
 }
 
 impl Difference {
@@ -98,25 +104,50 @@ impl Difference {
         writeln!(report, "library {:?}", self.library).expect("a string takes all");
         let (name, answer) = self.other;
         writeln!(report, "{name:<7} {answer:?}").expect("a string takes all");
-        if let Some(place) = self.place {
-            writeln!(report, "the lists differ at number {place}").expect("a string takes all");
+        for fault in &self.faults {
+            writeln!(report, "{fault}").expect("a string takes all");
         }
         report
     }
 }
 
-/// Two lists for comparing.
+/// A list and a tally to lend.
+pub struct Lent {
+    pub list: Vec<i32>,
+    pub tally: Tally,
+}
+
+impl Lent {
+    /// A list with room for so many numbers.
+    pub fn new(longest: usize) -> Lent {
+        Lent {
+            list: vec![0; longest],
+            tally: [[0; 3]; TOOLS],
+        }
+    }
+
+    /// Lends a list of a length and the tally to an expander, both full of a number, so that it is seen what is left as it
+    /// was.
+    fn expand(&mut self, number: i32, expander: Expander, setting: i32, text: &[u8], list_length: usize) -> Answer {
+        let list = &mut self.list[..list_length];
+        list.fill(number);
+        self.tally = [[number as u64; 3]; TOOLS];
+        (expander.expand)(setting, text, list, &mut self.tally)
+    }
+}
+
+/// Two lists and tallies for comparing.
 pub struct Pair {
-    first: Vec<i32>,
-    second: Vec<i32>,
+    first: Lent,
+    second: Lent,
 }
 
 impl Pair {
     /// Lists with room for so many numbers.
     pub fn new(longest: usize) -> Pair {
         Pair {
-            first: vec![0; longest],
-            second: vec![0; longest],
+            first: Lent::new(longest),
+            second: Lent::new(longest),
         }
     }
 
@@ -125,8 +156,8 @@ impl Pair {
         self.compare_with(PLAIN, setting, text, list_length)
     }
 
-    /// Expands a text at a setting by the library and another into two lists of a length, both full of other numbers
-    /// before, and gives the common answer.
+    /// Expands a text at a setting by the library and another into two lists of a length and two tallies, all full of other
+    /// numbers before, and gives the common answer. The tally also has to be the one that is taken from the list.
     pub fn compare_with(
         &mut self,
         other: Expander,
@@ -134,28 +165,106 @@ impl Pair {
         text: &[u8],
         list_length: usize,
     ) -> Result<Answer, Difference> {
-        let first = &mut self.first[..list_length];
-        let second = &mut self.second[..list_length];
-        first.fill(-77_777_777);
-        second.fill(77_777_777);
-        let library = library(setting, text, first);
-        let answer = (other.expand)(setting, text, second);
-        if library == answer && first == second {
-            return Ok(library);
+        let library = self.first.expand(-77_777_777, LIBRARY, setting, text, list_length);
+        let answer = self.second.expand(77_777_777, other, setting, text, list_length);
+        let mut faults = self.differences(other, list_length);
+        if library == answer && faults.is_empty() {
+            let entries = &self.first.list[..NUMBERS_PER_ENTRY * library.count];
+            match tally::fault(&self.first.tally, entries) {
+                None => return Ok(library),
+                Some(fault) => faults.push(fault),
+            }
         }
         Err(Difference {
             setting,
-            text: text.to_vec(),
+            text: text.into(),
             list_length,
             library,
             other: (other.name, answer),
-            place: first.iter().zip(second.iter()).position(|(a, b)| a != b),
+            faults,
         })
+    }
+
+    /// Where the lists of a length differ, and the tallies, if the other has one.
+    fn differences(&self, other: Expander, list_length: usize) -> Vec<String> {
+        let first = &self.first.list[..list_length];
+        let second = &self.second.list[..list_length];
+        let mut differences = Vec::new();
+        if first != second {
+            let place = first.iter().zip(second).position(|(a, b)| a != b);
+            differences.extend(place.map(|place| format!("the lists differ at number {place}")));
+        }
+        if other.has_tally {
+            let figures = tally::difference(&self.first.tally, &self.second.tally);
+            differences
+                .extend(figures.map(|(tool, first, second)| format!("tool {tool} has {first:?} and {second:?}")));
+        }
+        differences
     }
 
     /// How many of the entries are stops after a comparison that came to an answer.
     pub fn stops(&self, answer: Answer) -> usize {
-        let entries = self.first.chunks_exact(NUMBERS_PER_ENTRY).take(answer.count);
-        entries.filter(|entry| entry[3] >= FIRST_STOP_MODE).count()
+        let entries = self.first.list.chunks_exact(NUMBERS_PER_ENTRY).take(answer.count);
+        entries.filter(|entry| is_stop(entry)).count()
+    }
+
+    /// The tally after a comparison that came to an answer.
+    pub fn tally(&self) -> &Tally {
+        &self.first.tally
+    }
+}
+
+#[cfg(test)]
+mod tests {
+    use super::*;
+
+    const TEXT: &[u8] = b"G92X600.Y600.\nX1.T1\nM0\nX2.T99\nX3.T1\nG50";
+
+    /// The plain expander, with a tally that is made wrong afterwards.
+    fn told(expand: fn(i32, &[u8], &mut [i32], &mut Tally) -> Answer, text: &[u8]) -> Vec<String> {
+        let wrong = Expander {
+            name: "wrong",
+            expand,
+            has_tally: true,
+        };
+        match Pair::new(16).compare_with(wrong, 1, text, 16) {
+            Ok(_) => Vec::new(),
+            Err(difference) => difference.faults,
+        }
+    }
+
+    #[test]
+    fn right_tallies_are_taken() {
+        assert!(told(plain, TEXT).is_empty());
+    }
+
+    #[test]
+    fn each_figure_is_compared() {
+        fn last_of_99(setting: i32, text: &[u8], list: &mut [i32], tally: &mut Tally) -> Answer {
+            let answer = plain(setting, text, list, tally);
+            tally[98][2] += 1;
+            answer
+        }
+        assert_eq!(told(last_of_99, TEXT), ["tool 99 has [1, 3, 3] and [1, 3, 4]"]);
+        let refused = b"G92X600.Y600.\nX1.T99\nX700.\nG50";
+        assert_eq!(told(last_of_99, refused), ["tool 99 has [0, 0, 0] and [0, 0, 1]"]);
+    }
+
+    #[test]
+    fn a_tally_that_is_not_written_is_told() {
+        fn unwritten(setting: i32, text: &[u8], list: &mut [i32], _: &mut Tally) -> Answer {
+            plain(setting, text, list, &mut [[0; 3]; TOOLS])
+        }
+        assert_eq!(
+            told(unwritten, TEXT),
+            ["tool 1 has [2, 1, 4] and [77777777, 77777777, 77777777]"]
+        );
+        // as one that has none, it is not looked at
+        let without = Expander {
+            name: "without",
+            expand: unwritten,
+            has_tally: false,
+        };
+        assert!(Pair::new(16).compare_with(without, 1, TEXT, 16).is_ok());
     }
 }

@@ -120,8 +120,13 @@ impl Programmer {
         }
     }
 
+    /// A tool: the first or the last, any, or most often one of a few.
     fn tool(&mut self, words: &mut Vec<String>) {
-        let tool = self.scribe.count(1, 99);
+        let tool = match self.scribe.random.below(6) {
+            0 => self.scribe.random.pick(&[1, 99]),
+            1 => self.scribe.random.within(1..=99),
+            _ => self.scribe.count(1, 99),
+        };
         words.push(self.scribe.whole('T', tool));
     }
 
@@ -137,7 +142,7 @@ impl Programmer {
         let mut words = Vec::new();
         let is_relative = self.choose_reading(&mut words);
         self.axes(&mut words, is_relative);
-        if self.scribe.random.one_in(5) {
+        if self.scribe.random.one_in(3) {
             self.tool(&mut words);
         }
         self.scribe.block(&mut words);
@@ -198,7 +203,7 @@ impl Programmer {
             66 => self.shear_words(&mut words),
             _ => self.grid_words(&mut words),
         }
-        if self.scribe.random.one_in(5) {
+        if self.scribe.random.one_in(3) {
             self.tool(&mut words);
         }
         self.scribe.block(&mut words);

@@ -8,6 +8,7 @@ use crate::programs::Programmer;
 use crate::random::Random;
 use crate::shears;
 use crate::stops;
+use crate::tools;
 
 /// A text, and the setting that it is written for.
 #[derive(Debug, PartialEq, Eq)]
@@ -35,7 +36,7 @@ fn text(random: &mut Random, seed: u64, setting: Setting) -> Vec<u8> {
     if random.one_in(1_000) {
         return limits::long_text(random, program());
     }
-    match random.below(112) {
+    match random.below(120) {
         0..=34 => program(),
         35..=59 => {
             let mut text = program();
@@ -55,6 +56,7 @@ fn text(random: &mut Random, seed: u64, setting: Setting) -> Vec<u8> {
         93 => limits::wide_patterns(random, setting),
         94..=99 => limits::layout_states(random, setting),
         100..=105 => stops::stops(random, setting),
+        106..=113 => tools::tools(random, setting),
         _ => {
             let mut text = shears::shears(random, setting);
             if random.one_in(6) {
@@ -67,14 +69,16 @@ fn text(random: &mut Random, seed: u64, setting: Setting) -> Vec<u8> {
 
 #[cfg(test)]
 mod tests {
+    use tolkjirp::TOOLS;
+
     use super::*;
     use crate::pair::{plain, Pair};
 
-    /// How many of 3,000 answers are met, by number.
-    fn tally(setting: Setting) -> [u32; 19] {
+    /// How many of 4,000 answers are met, by number.
+    fn met(setting: Setting) -> [u32; 19] {
         let mut pair = Pair::new(16_384);
         let mut met = [0; 19];
-        for seed in 0..3_000 {
+        for seed in 0..4_000 {
             let list_length = if seed % 3 == 0 { 40 } else { 16_384 };
             let answer = pair.compare(setting.number(), &sample(seed).text, list_length);
             let answer = answer.unwrap_or_else(|difference| panic!("{}", difference.describe()));
@@ -92,7 +96,7 @@ mod tests {
     #[test]
     fn the_expanders_agree_and_refuse_in_many_ways() {
         for setting in [Setting::Hundredths, Setting::Millimetres] {
-            let met = tally(setting);
+            let met = met(setting);
             let missing: Vec<_> = (0..19).filter(|&number| met[number] == 0).collect();
             assert!(missing.is_empty(), "never met at {setting:?}: {missing:?}");
         }
@@ -102,9 +106,10 @@ mod tests {
     fn programs_are_mostly_accepted_at_their_own_setting() {
         for setting in [Setting::Hundredths, Setting::Millimetres] {
             let mut list = vec![0; 16_384];
+            let mut tally = [[0; 3]; TOOLS];
             let mut is_accepted = |seed| {
                 let text = Programmer::new(seed, setting).write();
-                plain(setting.number(), &text, &mut list).number == 0
+                plain(setting.number(), &text, &mut list, &mut tally).number == 0
             };
             let accepted = (0..1_000).filter(|&seed| is_accepted(seed)).count();
             assert!(accepted > 500, "{accepted} of 1,000 at {setting:?}");
@@ -127,5 +132,42 @@ mod tests {
             let met = (0..1_000).filter(|&seed| stops_of(&full_of_stops(seed)) > 0).count();
             assert!(met > 500, "{met} of 1,000 full of stops at {setting:?}");
         }
+    }
+
+    /// How many of 1,000 texts have hits by several tools.
+    fn with_several_tools(setting: Setting, text: impl Fn(u64) -> Vec<u8>) -> usize {
+        let mut pair = Pair::new(16_384);
+        let has_several = |seed: &u64| {
+            let answer = pair.compare(setting.number(), &text(*seed), 16_384);
+            answer.unwrap_or_else(|difference| panic!("{}", difference.describe()));
+            pair.tally().iter().filter(|[hits, ..]| *hits > 0).count() > 1
+        };
+        (0..1_000).filter(has_several).count()
+    }
+
+    #[test]
+    fn tools_change_in_accepted_texts() {
+        for setting in [Setting::Hundredths, Setting::Millimetres] {
+            let met = with_several_tools(setting, |seed| Programmer::new(seed, setting).write());
+            assert!(met > 200, "{met} of 1,000 programs at {setting:?}");
+            let met = with_several_tools(setting, |seed| tools::tools(&mut Random::new(seed), setting));
+            assert!(met > 500, "{met} of 1,000 full of tools at {setting:?}");
+        }
+    }
+
+    #[test]
+    fn all_tools_make_hits_and_stand_again_after_others() {
+        let mut pair = Pair::new(16_384);
+        let mut again = [false; TOOLS];
+        for seed in 0..3_000 {
+            let Sample { setting, text } = sample(seed);
+            let answer = pair.compare(setting.number(), &text, 16_384);
+            answer.unwrap_or_else(|difference| panic!("{}", difference.describe()));
+            for (again, [hits, first, last]) in again.iter_mut().zip(pair.tally()) {
+                *again |= *hits > 1 && last - first >= *hits;
+            }
+        }
+        let missing: Vec<_> = (1..).zip(again).filter(|(_, again)| !again).collect();
+        assert!(missing.is_empty(), "{missing:?}");
     }
 }

@@ -69,6 +69,8 @@ fn in_hundredths() -> Vec<Row> {
         ("G66 of 58,822 steps, refused on its way", most_steps("9999.99"), USUAL),
         ("4,096 copies of a part", copies(), USUAL),
         ("1,024 copies of a part with stops", copies_with_stops(), USUAL),
+        ("1,024 copies of a part of four tools", copies_with_tools(), USUAL),
+        ("positions, each by another tool", tool_changes(), USUAL),
         ("M00 and M01 lines", stops(), USUAL),
         ("400 x 10,000 copies, empty part", empty_part("", 400), USUAL),
         ("  part of 40,000 spaces", empty_part(&spaces(40_000), 400), USUAL),
@@ -223,6 +225,17 @@ fn copies() -> String {
 /// A part of two hits with a stop behind each, copied until the list is full.
 fn copies_with_stops() -> String {
     format!("{G92}G98 X5. Y5. I9. J9. P31 K31\nU1\nX1. Y1. T2\nM00\nX2.\nM01\nV1\nG76 W1 Q2\n{G50}")
+}
+
+/// A part of four hits by four tools, copied until the list is full.
+fn copies_with_tools() -> String {
+    format!("{G92}G98 X5. Y5. I9. J9. P31 K31\nU1\nX1. Y1. T2\nX2. T99\nX3. T1\nX4. T50\nV1\nG75 W1 Q3\n{G50}")
+}
+
+/// Positions with all tools in turn, until the list is full.
+fn tool_changes() -> String {
+    let positions = (0..USUAL / 4).map(|number| format!("X{}.T{}\n", number % 600, 1 + number % 99));
+    format!("{G92}{}{G50}", positions.collect::<String>())
 }
 
 /// Stops until the list is full.

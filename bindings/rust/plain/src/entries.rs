@@ -2,6 +2,7 @@
 
 use crate::press::{Mode, Point, Tool};
 use crate::refusal::Refusal;
+use crate::tally::{count_hit, Tally};
 
 /// How many numbers an entry takes: X, Y, tool, mode.
 pub const NUMBERS: usize = 4;
@@ -31,27 +32,36 @@ impl Entry {
     }
 }
 
-/// The lent list and the entries in it.
+/// The lent list, the entries in it, and the tally of their hits.
 pub struct EntryList<'l> {
     numbers: &'l mut [i32],
     count: usize,
+    tally: &'l mut Tally,
 }
 
 impl<'l> EntryList<'l> {
-    pub fn new(numbers: &'l mut [i32]) -> EntryList<'l> {
-        EntryList { numbers, count: 0 }
+    /// No entry in a list yet, with a tally that has no hits.
+    pub fn new(numbers: &'l mut [i32], tally: &'l mut Tally) -> EntryList<'l> {
+        EntryList {
+            numbers,
+            count: 0,
+            tally,
+        }
     }
 
     pub fn count(&self) -> usize {
         self.count
     }
 
-    /// Adds an entry; refusal 17.
+    /// Adds an entry and counts it, if it is a hit, for its tool; refusal 17.
     pub fn add(&mut self, entry: Entry) -> Result<(), Refusal> {
         let start = NUMBERS * self.count;
         let place = self.numbers.get_mut(start..start + NUMBERS);
         place.ok_or(Refusal::ListFull)?.copy_from_slice(&entry.numbers());
         self.count += 1;
+        if let Entry::Hit { tool, .. } = entry {
+            count_hit(self.tally, tool, self.count as u64);
+        }
         Ok(())
     }
 }

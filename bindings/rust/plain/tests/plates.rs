@@ -1,11 +1,11 @@
 //! Plates with known hits, and programs at the limits.
 
-use plain::{expand, Answer};
+use plain::{expand, Answer, TOOLS};
 
 /// The answer to a text at a setting, and the entries as X, Y, tool and mode.
 fn expand_at(setting: i32, text: &str) -> (Answer, Vec<[i32; 4]>) {
     let mut list = vec![-1; 16_384];
-    let answer = expand(setting, text.as_bytes(), &mut list);
+    let answer = expand(setting, text.as_bytes(), &mut list, &mut [[0; 3]; TOOLS]);
     let count = match answer {
         Answer::Entries(count) => count,
         Answer::Refused { .. } => 0,
@@ -139,7 +139,7 @@ fn blocks_may_be_100000() {
 #[test]
 fn a_list_may_be_exactly_full() {
     let text = program("X1. T2\nX2.");
-    let expand_into = |list: &mut [i32]| expand(1, text.as_bytes(), list);
+    let expand_into = |list: &mut [i32]| expand(1, text.as_bytes(), list, &mut [[0; 3]; TOOLS]);
     assert_eq!(expand_into(&mut [-1; 8]), Answer::Entries(2));
     let mut list = [-1; 7];
     assert_eq!(expand_into(&mut list), Answer::Refused { number: 17, line: 3 });

@@ -1,11 +1,11 @@
 //! The decimal point setting: plates in whole millimetres, and the limit of their numbers.
 
-use plain::{expand, Answer};
+use plain::{expand, Answer, TOOLS};
 
 /// The hits of a text at a setting, as X, Y, tool and mode, or the number and line of its refusal.
 fn hits(setting: i32, text: &str) -> Result<Vec<[i32; 4]>, (u8, u64)> {
     let mut list = vec![-1; 16_384];
-    match expand(setting, text.as_bytes(), &mut list) {
+    match expand(setting, text.as_bytes(), &mut list, &mut [[0; 3]; TOOLS]) {
         Answer::Entries(count) => {
             let hits = list.chunks_exact(4).take(count);
             Ok(hits.map(|hit| hit.try_into().unwrap()).collect())

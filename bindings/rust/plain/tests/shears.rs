@@ -1,12 +1,13 @@
 //! Long edges by G66: hits worked out by hand, and the limits of refusal 18.
 
-use plain::{expand, Answer};
+use plain::{expand, Answer, TOOLS};
 
 /// The hits of blocks after G92 of the ARIES-222, at a setting and with places for so many entries, as X, Y and
 /// tool, or their refusal.
 fn hits(setting: i32, places: usize, blocks: &str) -> Result<Vec<[i32; 3]>, (u8, u64)> {
     let mut list = vec![-1; 4 * places];
-    match expand(setting, format!("G92X600.Y600.\n{blocks}\nG50\n").as_bytes(), &mut list) {
+    let text = format!("G92X600.Y600.\n{blocks}\nG50\n");
+    match expand(setting, text.as_bytes(), &mut list, &mut [[0; 3]; TOOLS]) {
         Answer::Entries(count) => {
             let hits = list.chunks_exact(4).take(count);
             Ok(hits.map(|hit| [hit[0], hit[1], hit[2]]).collect())

@@ -1,6 +1,6 @@
 //! Stops in the list: M00 and M01.
 
-use plain::{expand, Answer};
+use plain::{expand, Answer, TOOLS};
 
 /// An entry: X, Y, tool and mode.
 type Entry = [i32; 4];
@@ -11,7 +11,8 @@ const OPTIONAL_STOP: Entry = [0, 0, 0, 3];
 /// The entries of blocks after G92 of the ARIES-222, with places for so many, or their refusal.
 fn entries_in(places: usize, blocks: &str) -> Result<Vec<Entry>, (u8, u64)> {
     let mut list = vec![-1; 4 * places];
-    let answer = expand(1, format!("G92X600.Y600.\n{blocks}\nG50\n").as_bytes(), &mut list);
+    let text = format!("G92X600.Y600.\n{blocks}\nG50\n");
+    let answer = expand(1, text.as_bytes(), &mut list, &mut [[0; 3]; TOOLS]);
     let count = match answer {
         Answer::Entries(count) => count,
         Answer::Refused { .. } => 0,
@@ -142,7 +143,7 @@ fn a_list_may_be_exactly_full_by_a_stop() {
     assert_eq!(entries_in(0, "M8\nM0"), Err((17, 3)));
     // fewer than four numbers are no place
     let mut list = [-1; 7];
-    let answer = expand(1, b"G92X600.Y600.\nM0\nM0\nG50", &mut list);
+    let answer = expand(1, b"G92X600.Y600.\nM0\nM0\nG50", &mut list, &mut [[0; 3]; TOOLS]);
     assert_eq!(answer, Answer::Refused { number: 17, line: 3 });
     assert_eq!(list, [0; 7]);
 }

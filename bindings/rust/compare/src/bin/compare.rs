@@ -3,14 +3,15 @@
 //! `compare [COUNT [SEED]]` tries texts SEED to SEED + COUNT - 1, each at both decimal point settings. It ends with 1 at a
 //! difference, with 2 if its arguments are wrong.
 
-use std::env;
 use std::process::ExitCode;
+use std::sync::atomic::{AtomicU64, Ordering::Relaxed};
+use std::{env, panic};
 
 use compare::arguments::seeds;
+use compare::census::{Call, Census, Tools};
 use compare::pair::{Answer, Difference, Pair};
 use compare::random::Random;
 use compare::samples::{sample, Sample};
-use compare::tally::{Call, Tally};
 
 /// The numbers of the usual list, with places for 4,096 entries.
 const USUAL_LENGTH: usize = 16_384;
@@ -32,39 +33,53 @@ fn main() -> ExitCode {
         }
     };
     let mut pair = Pair::new(LONG_LENGTH);
-    let mut tally = Tally::default();
+    let mut census = Census::default();
+    tell_seed_at_panics();
     for seed in seeds {
-        if let Err(difference) = try_text(&mut pair, &mut tally, seed) {
+        SEED.store(seed, Relaxed);
+        if let Err(difference) = try_text(&mut pair, &mut census, seed) {
             println!("{}rerun   compare 1 {seed}", difference.describe());
             return ExitCode::FAILURE;
         }
     }
-    tally.print();
+    census.print();
     println!("no difference");
     ExitCode::SUCCESS
 }
 
+/// The number of the text that is tried.
+static SEED: AtomicU64 = AtomicU64::new(0);
+
+/// The safe interface panics where the library answers what can't be; this adds the number of the text.
+fn tell_seed_at_panics() {
+    let usual = panic::take_hook();
+    panic::set_hook(Box::new(move |information| {
+        usual(information);
+        eprintln!("rerun   compare 1 {}", SEED.load(Relaxed));
+    }));
+}
+
 /// Compares the answers for one text at both settings, and now and then at another number.
-fn try_text(pair: &mut Pair, tally: &mut Tally, seed: u64) -> Result<(), Difference> {
+fn try_text(pair: &mut Pair, census: &mut Census, seed: u64) -> Result<(), Difference> {
     let sample = sample(seed);
     for setting in SETTINGS {
-        try_lists(pair, tally, seed, &sample, setting)?;
+        try_lists(pair, census, seed, &sample, setting)?;
     }
     let mut random = Random::new(!seed ^ 0x5e77);
     if random.one_in(4) {
         let number = random.pick(&OTHER_NUMBERS);
-        tally.add_call(call(pair, &sample, number, USUAL_LENGTH)?);
+        census.add_call(call(pair, &sample, number, USUAL_LENGTH)?);
     }
     Ok(())
 }
 
 /// Compares the answers for one text at a setting and several lengths of the list.
-fn try_lists(pair: &mut Pair, tally: &mut Tally, seed: u64, sample: &Sample, setting: i32) -> Result<(), Difference> {
+fn try_lists(pair: &mut Pair, census: &mut Census, seed: u64, sample: &Sample, setting: i32) -> Result<(), Difference> {
     let usual = call(pair, sample, setting, USUAL_LENGTH)?;
-    tally.add_text(usual);
-    tally.add_call(usual);
+    census.add_text(usual);
+    census.add_call(usual);
     for length in other_lengths(seed, usual.answer) {
-        tally.add_call(call(pair, sample, setting, length)?);
+        census.add_call(call(pair, sample, setting, length)?);
     }
     Ok(())
 }
@@ -77,6 +92,7 @@ fn call<'a>(pair: &mut Pair, sample: &'a Sample, setting: i32, length: usize) ->
         setting,
         answer,
         stops: pair.stops(answer),
+        tools: Tools::of(pair.tally()),
     })
 }
 
