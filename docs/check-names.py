@@ -4,6 +4,7 @@
 - Each definition of the meaning is named on the page. In the last section a name stands behind that of its file.
 - Each example is a golden case with the same text, setting and answer, and each case page-.. is an example.
 - What docs/READING.md names in the same way is there, and so is what it names as crate::..::name in the code.
+- README.md has the number of golden cases.
 """
 import re
 import sys
@@ -15,7 +16,7 @@ DEFINITION = re.compile(r'^(?:abbrev |unfoldable )?pub (?:record |data )?(?!mod 
 PAGE = 'docs/PUNCH-CODE.md'
 INDEX = '## The definitions by file'
 # how functions are proved, and statements about the definitions, which docs/READING.md names
-NOT_MEANING = {'Runs', 'WidePoints', 'CopyRuns', 'CopyBlocks', 'CopyPairs', 'Refusals', 'Settings', 'Plates'}
+NOT_MEANING = {'Tallying', 'Runs', 'WidePoints', 'CopyRuns', 'CopyBlocks', 'CopyPairs', 'Refusals', 'Settings', 'Tools', 'Plates'}
 
 missing = []
 
@@ -67,13 +68,15 @@ def names_of(page, files):
 def examples():
     """Each example of the page against its golden case."""
     page = (ROOT / PAGE).read_text()
-    shown = re.findall(r'^Example `(page-[\w-]+)`(?:, at setting (\d))?:\n.*?^```\n(.*?)^```$.*?^```\n(.*?)^```$', page, re.M | re.S)
+    shown = re.findall(r'^Example `([\w-]+)`(?:, at setting (\d))?:\n.*?^```\n(.*?)^```$.*?^```\n(.*?)^```$', page, re.M | re.S)
     golden = re.split(r'^([\w-]+)\.nc (-?\d+) \d+\n', (CRATES / 'cases/stdout').read_text(), flags=re.M)
     answers = dict(zip(golden[1::3], zip(golden[2::3], golden[3::3])))
     for name, setting, text, answer in shown:
         file = CRATES / 'cases/data' / (name + '.nc')
         if not file.exists() or file.read_text() != text or answers.get(name) != (setting or '1', answer):
             missing.append('no golden case has the text, the setting and the answer of the example %s' % name)
+    if 'golden cases, {:,} of them'.format(len(golden[1::3])) not in (ROOT / 'README.md').read_text():
+        missing.append('README.md: there are {:,} golden cases'.format(len(golden[1::3])))
     for name in answers:
         if name.startswith('page-') and name not in [s[0] for s in shown]:
             missing.append('the case %s is no example of the page' % name)
