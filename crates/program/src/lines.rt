@@ -208,19 +208,9 @@ pub fn run_text(job: Job, list: &mut [i32], tally: &mut [u64; FIGURES], text: &[
                 at = end;
                 line = place;
             }
-            Next::Open(number, end, place) => {
+            Next::Open(n, end, place) => {
                 let from = end + 1;
-                let opened = open_body(
-                    list,
-                    tally,
-                    text,
-                    number,
-                    from,
-                    place,
-                    setup,
-                    macros,
-                    progress,
-                );
+                let opened = open_body(list, tally, text, n, from, place, setup, macros, progress);
                 let status = opened.status;
                 if let Status::Refused(number, place) = status {
                     return Advance::refused(number, place, Program::fresh(job));
