@@ -94,10 +94,10 @@ module _ (j : Judging) (f : Frame) (line : ℕ) (l : List ℕ) (g : Progress) wh
   unfolding begin
   begin-spent e = simp e
 
-  pub begin-refused : mayCome j l g ≡ true → (number : ℕ) → decode (readerOf f) l ≡ fails number → begin j f line l g ≡ refused number line
+  pub begin-refused : mayCome j l g ≡ true → (number : ℕ) → decode (readerOf f (g .state)) l ≡ fails number → begin j f line l g ≡ refused number line
   unfolding begin
   begin-refused e number d = simp (e, d)
 
-  pub begin-done : mayCome j l g ≡ true → (i : Instruction) → decode (readerOf f) l ≡ passes i → begin j f line l g ≡ done (begunBy l g i)
+  pub begin-done : mayCome j l g ≡ true → (i : Instruction) → decode (readerOf f (g .state)) l ≡ passes i → begin j f line l g ≡ done (begunBy l g i)
   unfolding begin
   begin-done e i d = simp (e, d)

@@ -17,7 +17,7 @@ use Rattle.aries.specs.Setup.{ordinaryFrame}
 use Rattle.aries.specs.CopyRuns.{Circumstances, called, Accepted, entriesOf, movedBy, joined, SamePart}
 use Rattle.aries.proofs.Outcomes.{done-injective, need-accepted, Both, then-accepted, accepted-then}
 use Rattle.aries.proofs.Counts.{Counts, countsOf, nothing, _⊞_, times, times-suc, Up, up-unique, Fit, fit-nothing, fit-front, fit-back, fit-joined}
-use Rattle.aries.proofs.Follows.{Followed, follows-accepted, follows-fitting}
+use Rattle.aries.proofs.Follows.{Motion, translation, Followed, follows-accepted, follows-fitting}
 use Rattle.aries.proofs.BodyRuns.{unlimited}
 use Rattle.aries.proofs.Parts.{partAt, ownFrom, same-part, part-own, part-bounds}
 
@@ -59,7 +59,7 @@ module _ (c base : Circumstances) (same : SamePart c base) where
 
   -- one that was accepted, beside the own run from other counts
   pub record Copied (p : Point) (n n′ : Counts) (m : Made Progress) : Type 0 where
-    pub own : Followed (judging c) p n n′ m (ownFrom base n′)
+    pub own : Followed (judging c) (translation p) n n′ m (ownFrom base n′)
     pub passes : Passes base p
 
   copy-accepted : (p : Point) (g : Progress) (n′ : Counts) (m : Made Progress) → copyTo c p g ≡ done m → Copied p (countsOf g) n′ m
@@ -107,7 +107,7 @@ module _ (c base : Circumstances) (same : SamePart c base) where
 
   module _ (n′ : Counts) (w : Own base n′) where
     -- whatever goes along with the own run counts as many
-    counts-as-own : {j : Judging} {v : Point} {n : Counts} {m : Made Progress} (o : Followed j v n n′ m (ownFrom base n′)) → o .by ≡ w .by
+    counts-as-own : {j : Judging} {v : Motion} {n : Counts} {m : Made Progress} (o : Followed j v n n′ m (ownFrom base n′)) → o .by ≡ w .by
     counts-as-own o =
         up-unique (o .together .up′)
         (subst (λ (m : Made Progress). Up n′ (countsOf (m .after)) (w .by)) (done-injective _ _ (sym (w .result-is) ∙ o .other-is)) (w .up))

@@ -37,7 +37,7 @@ not-blank r i e = let z : _≡_ {A = ℕ} 0 1 = cc in omega arith
 
 pub copy-lines-run : CopyLinesRun
 unfolding runBlockOutside carryOut carryOutside run
-copy-lines-run text after line [] ls p i k running may e b = absurd (not-blank (readerOf (ordinaryFrame (p .setup))) i e)
+copy-lines-run text after line [] ls p i k running may e b = absurd (not-blank (readerOf (ordinaryFrame (p .setup)) (p .progress .state)) i e)
 copy-lines-run text after line (c ∷ l) ls p i k running may e b =
     ap (λ (t : Stage). elim (isStoring t) as (λ _. Out (Made Program)) [ true ↦ passOver (c ∷ l) p | false ↦ runBlockOutside j text after line (c ∷ l) ls p ]) running
     ∙ ap (λ (x : Out Begun). _>>=_ x goesOn) (begin-done j (ordinaryFrame (p .setup)) line (c ∷ l) (p .progress) may i e)

@@ -84,7 +84,7 @@ instructionBy vertical = record { measure = Unchanged; block = Outside (Copy (co
 comes-to :
     (text block : List ℕ) (vertical : Bool)
     → lines text ≡ bytes "G92X600.Y600." ∷ bytes "G98X0Y0I10.J10.P1K1" ∷ bytes "U60" ∷ bytes "X1.Y1.T2" ∷ bytes "V60" ∷ block ∷ bytes "G50" ∷ []
-    → decode (readerAt Hundredths) block ≡ passes (instructionBy vertical) → isCounted block ≡ true → ComesTo job text vertical (finds text vertical)
+    → decode (readerAt Hundredths (freshState .given)) block ≡ passes (instructionBy vertical) → isCounted block ≡ true → ComesTo job text vertical (finds text vertical)
 comes-to text block vertical e d k =
     record {
       at = 51;

@@ -23,6 +23,11 @@ pub near-y : (p : Point) → near p ≡ true → natAbs (p .y) ≤ farthest
 unfolding near
 near-y p e = leb-true (natAbs (p .y)) farthest (and-right (isNear (p .x)) (isNear (p .y)) e)
 
+-- both coordinates of a near point are near
+pub near-both : (p : Point) → near p ≡ true → (isNear (p .x) ≡ true) × (isNear (p .y) ≡ true)
+unfolding near
+near-both p e = (and-left (isNear (p .x)) (isNear (p .y)) e, and-right (isNear (p .x)) (isNear (p .y)) e)
+
 -- the punching range lies within the limit of 15: its right end does,
 right-near : (m : Machine) → isNear (rightEnd m) ≡ true
 right-near Aries222 = refl

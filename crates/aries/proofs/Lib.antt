@@ -24,6 +24,9 @@ pub mod BothOrNeither
 pub mod Kept
 pub mod CopyBlocks
 pub mod CopyPairs
+-- What is proved of mirrors.
+pub mod MirrorRuns
+pub mod MirrorBlocks
 -- What is proved of refusals and, in the same pass, of tools; and so of the tally.
 pub mod ToolWords
 pub mod Sound
@@ -37,6 +40,9 @@ pub mod Shear
 pub mod Advanced
 pub mod Carried
 pub mod Judging
+pub mod Mirrors
+pub mod Steady
+pub mod Given
 pub mod Calls
 pub mod Named
 pub mod Runs

@@ -22,6 +22,7 @@ use Rattle.aries.specs.Outcome.{Out, done, refused, _>>=_, need}
 use Rattle.aries.specs.Entries.{Made, adding, andThen, mapAfter}
 use Rattle.aries.specs.Judging.{Judging, room, judged, near}
 use Rattle.aries.specs.Machine.{inRange}
+use Rattle.aries.specs.Mirrors.{seen}
 use Rattle.aries.specs.Moves.{_⊕_, movedTo, entered, hitOf, target, choosing, dropping, remembering, withState, punch, position}
 use Rattle.aries.specs.Patterns.{hitOffset, hitCount, reachIsNear, shearIsFit, punches, startOf, starting, ending, pattern, runPattern, emptyMemory, recalled, recall}
 use Rattle.aries.specs.Runs.{lent, lentBoth, Ran, entriesMade}
@@ -71,9 +72,9 @@ module _ (j : Judging) (f : Frame) (line : ℕ) where
   unfolding punch
   one-punch {tool} p g e =
       one-need (ltb 0 (g .state .tool)) 14 line
-      (one-need (judged (j .bounds) (near p)) 15 line
-      (one-need (judged (j .bounds) (inRange f p)) 16 line
-      (one-need (room (j .places) (g .entries)) 17 line {x = done (entered (hitOf (g .state) p) (withState g (movedTo (g .state) p)))} (record { with-it = (e, (eq-eqb (g .state .tool) tool e, tt)) }))))
+      (one-need (judged (j .bounds) (near (seen f p))) 15 line
+      (one-need (judged (j .bounds) (inRange f (seen f p))) 16 line
+      (one-need (room (j .places) (g .entries)) 17 line {x = done (entered (hitOf (g .state) (seen f p)) (withState g (movedTo (g .state) p)))} (record { with-it = (e, (eq-eqb (g .state .tool) tool e, tt)) }))))
 
   one-punches : {tool : ℕ} (p : Pattern) (start : Point) (n k : ℕ) (g : Progress) → g .state .tool ≡ tool → OneTool tool (punches j f line p start n k g)
   unfolding punches

@@ -115,7 +115,7 @@ module _ (last : ℕ) (text : List ℕ) where
         → Sound last (λ (r : Store). StoreOf last text (r .macros) × ToolFits (r .progress)) (openBody j text n start line ls s st)
     unfolding openBody
     openBody-sound n start ls s st k fits a =
-        sound-given Any (bodySize (readerOf (ordinaryFrame s)) n ls) 9 refl h (any (bodySize (readerOf (ordinaryFrame s)) n ls)) λ size _.
+        sound-given Any (bodySize (readerOf (ordinaryFrame s) (st .progress .state)) n ls) 9 refl h (any (bodySize (readerOf (ordinaryFrame s) (st .progress .state)) n ls)) λ size _.
         let b = bodyFrom-of start size a in
         sound-need (leb (characters (storedAt (st .macros) n start size line)) mostCharacters) 12 refl h
         (sound-map (withStored (storedAt (st .macros) n start size line)) _

@@ -9,6 +9,7 @@ use lib.ListN.{set}
 use lib.Seq.{set-getD}
 use Rattle.signed.specs.Signed.{eqZ}
 use Rattle.signed.proofs.Tests.{eqZ-true}
+use Rattle.aries.specs.declared.reader.Given.{Given}
 use Rattle.aries.specs.declared.block.Kind.{Kind}
 use Rattle.aries.specs.declared.job.Job.{Job}
 use Rattle.aries.specs.declared.reader.Setting.{Setting}
@@ -71,23 +72,23 @@ others-alike number h = go (eqZ number (pos 0)) refl
     go true e = absurd (h (eqZ-true number (pos 0) e))
     go false e = refl
 
-words-written : (ws : List LetterWord) → decodeWords (readerAt Hundredths) ws ≡ baseWords ws
+words-written : (given : Given) (ws : List LetterWord) → decodeWords (readerAt Hundredths given) ws ≡ baseWords given ws
 unfolding decodeWords lengthsFit
-words-written ws = rw (hundredths-written (kindOf (byLetter ws)) (byLetter ws .letters))
+words-written given ws = rw (hundredths-written (kindOf (byLetter ws)) (byLetter ws .letters))
 
 -- a line at setting 1
-decoded-written : (l : List ℕ) → decode (readerAt Hundredths) l ≡ baseDecoded (words l)
+decoded-written : (given : Given) (l : List ℕ) → decode (readerAt Hundredths given) l ≡ baseDecoded given (words l)
 unfolding decode
-decoded-written l = go (words l)
+decoded-written given l = go (words l)
   where
-    go : (o : Option (List LetterWord)) → decoded (readerAt Hundredths) o ≡ baseDecoded o
+    go : (o : Option (List LetterWord)) → decoded (readerAt Hundredths given) o ≡ baseDecoded given o
     go none = refl
-    go (some ws) = words-written ws
+    go (some ws) = words-written given ws
 
 begins-written :
     (j : Judging) (f : Frame) (line : ℕ) (l : List ℕ) (g : Progress) → f .job .setting ≡ Hundredths → begin j f line l g ≡ baseBegin j line l g
 unfolding begin
-begins-written j f line l g e = rw (e, decoded-written l)
+begins-written j f line l g e = rw (e, decoded-written (g .state .given) l)
 
 pub base-kept : BaseKept
 unfolding expand isOwnClose
@@ -95,12 +96,12 @@ base-kept =
     record {
       others = λ number h text numbers. rw (others-alike number h);
       begins = begins-written;
-      closes = λ n l. ap (isCloseOf n) (decoded-written l);
+      closes = λ given n l. ap (isCloseOf n) (decoded-written given l);
     }
 
 -- ---- The whole text
 
 pub setting-holds : SettingHolds
-setting-holds job text at line ls p r place =
-    let held = ap (λ (j : Job). readerAt (j .setting)) (reached-ordinary job text at line ls p r .1) in
+setting-holds job text at line ls p r place s =
+    let held = ap (λ (j : Job). j .setting) (reached-ordinary job text at line ls p r .1) in
     (held, held)

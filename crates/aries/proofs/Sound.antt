@@ -13,6 +13,8 @@ use borrow.Author.Tests.{ltb-true}
 use Rattle.signed.proofs.Tests.{and-right}
 use Rattle.aries.specs.declared.block.Direct.{Direct}
 use Rattle.aries.specs.declared.block.Direct.the-variants.{Lone, Punch, Move, PatternOrigin, RunPattern, Recall, Nibble, Idle, Stop}
+use Rattle.aries.specs.declared.block.Call.{Call}
+use Rattle.aries.specs.declared.block.Call.the-variants.{Plain, Mirrored}
 use Rattle.aries.specs.declared.block.Block.{Block}
 use Rattle.aries.specs.declared.block.Block.the-variants as Block
 use Rattle.aries.specs.declared.block.Axes.{Axes}
@@ -45,9 +47,10 @@ use Rattle.aries.specs.declared.entry.Entry.the-variants as Entry
 use Rattle.aries.specs.Entries.{hitsIn, Made, noEntry, adding, andThen, mapAfter}
 use Rattle.aries.specs.Judging.{Judging, room, judged, near}
 use Rattle.aries.specs.Machine.{inRange}
+use Rattle.aries.specs.Mirrors.{seen}
 use Rattle.aries.specs.Moves.{_⊕_, movedTo, target, enter, hitOf, punch, position, move, setPatternOrigin, choosing, dropping, remembering, withState}
 use Rattle.aries.specs.Patterns.{hitOffset, hitCount, reachIsNear, shearIsFit, punches, startOf, starting, ending, pattern, runPattern, emptyMemory, recalled, recall}
-use Rattle.aries.specs.Macros.{Body, Bodies, Calls, carryDirect, carry, mayCome, Begun, begunBy, begin, runBlock, runLine, runLines, call, mostCalls, runBody}
+use Rattle.aries.specs.Macros.{Body, Bodies, Calls, carryDirect, atOrigin, carryCall, carry, mayCome, Begun, begunBy, begin, runBlock, runLine, runLines, call, mostCalls, runBody}
 use Rattle.aries.specs.Setup.{ordinaryFrame, frameAt}
 use Rattle.aries.specs.Layouts.{copyStart, copy, copyAll, copyCount, copyPlace, partOf, copyOver, copyPart}
 use Rattle.aries.specs.Tools.{AllNamed}
@@ -202,15 +205,15 @@ module _ {last : ℕ} where
     unfolding punch AllNamed hitsIn
     punch-sound p g fits =
         sound-passed (ltb 0 (g .state .tool)) 14 refl h λ chosen.
-        sound-need (judged (j .bounds) (near p)) 15 refl h
-        (sound-need (judged (j .bounds) (inRange f p)) 16 refl h
-        (enter-sound (hitOf (g .state) p) (ltb-true 0 (g .state .tool) chosen, fits, tt) (withState g (movedTo (g .state) p)) fits))
+        sound-need (judged (j .bounds) (near (seen f p))) 15 refl h
+        (sound-need (judged (j .bounds) (inRange f (seen f p))) 16 refl h
+        (enter-sound (hitOf (g .state) (seen f p)) (ltb-true 0 (g .state .tool) chosen, fits, tt) (withState g (movedTo (g .state) p)) fits))
 
     move-sound : (a : Axes) (t : ℕ) → t ≤ lastTool → SoundFrom last (move j f line a t)
     unfolding move
     move-sound a t own g fits =
-        sound-need (judged (j .bounds) (near (target f (g .state) a))) 15 refl h
-        (sound-need (judged (j .bounds) (inRange f (target f (g .state) a))) 16 refl h (sound-done (choosing-fits g t fits own)))
+        sound-need (judged (j .bounds) (near (seen f (target f (g .state) a)))) 15 refl h
+        (sound-need (judged (j .bounds) (inRange f (seen f (target f (g .state) a)))) 16 refl h (sound-done (choosing-fits g t fits own)))
 
     setPatternOrigin-sound : (a : Axes) → SoundFrom last (setPatternOrigin j f line a)
     unfolding setPatternOrigin
@@ -256,7 +259,7 @@ module _ {last : ℕ} where
   unfolding decodeWords
   decoded-proper r line h none written = record { answered = (refl, h) }
   decoded-proper r line h (some ws) written =
-      go (inPlaces ws && isListed w k) (lengthsFit s k (w .letters) && isRanged m k) (λ e. words-fit s k ws (written ws refl) (and-right (lengthsFit s k (w .letters)) _ e))
+      go (inPlaces ws && isListed (r .given) w k) (lengthsFit s k (w .letters) && isRanged m k) (λ e. words-fit s k ws (written ws refl) (and-right (lengthsFit s k (w .letters)) _ e))
     where
       w : Words
       w = byLetter ws
@@ -281,7 +284,7 @@ module _ {last : ℕ} where
       (j : Judging) (f : Frame) (line : ℕ) → LineOf last line → (l : List ℕ) (g : Progress) → ToolFits g → Proper last BegunFits (begin j f line l g)
   unfolding begin decode
   begin-proper j f line h l g fits =
-      go (mayCome j l g) (inLine line (decoded (readerOf f) (words l))) (decoded-proper (readerOf f) line h (words l) (words-written l))
+      go (mayCome j l g) (inLine line (decoded (readerOf f (g .state)) (words l))) (decoded-proper (readerOf f (g .state)) line h (words l) (words-written l))
     where
       go :
           (t : Bool) (x : Out Instruction) → Proper last (λ i. BlockFits (i .block)) x
@@ -293,10 +296,14 @@ module _ {last : ℕ} where
   -- ---- The lines of bodies
 
   module _ (j : Judging) (calls : Calls) (sound : CallsOf last calls) (f : Frame) where
+    carryCall-sound : (line : ℕ) → LineOf last line → (c : Call) → SoundFrom last (carryCall calls f line c)
+    carryCall-sound line h (Plain n) g fits = sound f n line h g fits
+    carryCall-sound line h (Mirrored m) g fits = sound-map (atOrigin f) _ (sound _ (m .part) line h _ fits) (λ left fits. fits)
+
     pub carry-sound : (line : ℕ) → LineOf last line → (b : Block) → BlockFits b → SoundFrom last (carry j calls f line b)
     unfolding carry
     carry-sound line h (Block.Direct d) own g fits = carryDirect-sound j f line h d own g fits
-    carry-sound line h (Block.Call n) own g fits = sound f n line h g fits
+    carry-sound line h (Block.Call c) own g fits = carryCall-sound line h c g fits
     carry-sound line h (Block.Outside o) own g fits = sound-refused refl h
 
     runLine-sound : (line : ℕ) → LineOf last line → (l : List ℕ) → SoundFrom last (runLine j calls f line l)

@@ -67,6 +67,7 @@ module _ (w : Letters) (h : count w letterT ≤ lastTool) where
   block-fits kind.G50 = tt
   block-fits kind.G70 = h
   block-fits kind.G72 = omega arith
+  block-fits kind.G73 = tt
   block-fits kind.G75 = tt
   block-fits kind.G76 = tt
   block-fits kind.G92 = tt

@@ -1,5 +1,5 @@
 -- Blocks: what the words of a block ask for. (Document 01, "Moving and punching", "Patterns", "Macros and layouts"; document 02,
--- §2; refusals 4, 5 and 6, each of which looks at the whole block before the next does.)
+-- §2 and §5; refusals 4, 5 and 6, each of which looks at the whole block before the next does.)
 use mathlib.Core.Bool.{Bool, true, false, cond, _&&_}
 use mathlib.Core.List.{List}
 use mathlib.Core.Option.{Option, none, some}
@@ -9,7 +9,7 @@ use lib.Signed.{ltZ}
 use Rattle.sine.specs.Sine.{turn}
 use Rattle.aries.specs.declared.point.Point.{Point}
 use Rattle.aries.specs.declared.block.Kind.{Kind}
-use Rattle.aries.specs.declared.block.Kind.the-variants.{G26, G28, G29, G36, G37, G50, G70, G72, G75, G76, G92, G93, G98, Position, Lone, LetterM, LetterB, LetterU, LetterV, LetterW, Unknown, G66}
+use Rattle.aries.specs.declared.block.Kind.the-variants.{G26, G28, G29, G36, G37, G50, G70, G72, G75, G76, G92, G93, G98, Position, Lone, LetterM, LetterB, LetterU, LetterV, LetterW, Unknown, G66, G73}
 use Rattle.aries.specs.declared.block.Axis.{Axis}
 use Rattle.aries.specs.declared.block.Axes.{Axes}
 use Rattle.aries.specs.declared.block.Steps.{Steps}
@@ -19,6 +19,8 @@ use Rattle.aries.specs.declared.block.Pattern.the-variants.{Line, Arc, C
 use Rattle.aries.specs.declared.block.Pattern.the-variants as pattern
 use Rattle.aries.specs.declared.block.Layout.{Layout}
 use Rattle.aries.specs.declared.block.Copies.{Copies}
+use Rattle.aries.specs.declared.block.Mirroring.{Mirroring}
+use Rattle.aries.specs.declared.block.Call.the-variants as call
 use Rattle.aries.specs.declared.block.Direct.{Direct}
 use Rattle.aries.specs.declared.block.Direct.the-variants as direct
 use Rattle.aries.specs.declared.block.Outside.{Outside}
@@ -79,6 +81,10 @@ layout w =
 abbrev pub copies : Bool → Letters → Copies
 copies vertical w = record { vertical = vertical; part = count w letterW; corner = count w letterQ }
 
+-- G73
+abbrev pub mirroring : Letters → Mirroring
+mirroring w = record { part = count w letterW; way = count w letterQ; axes = axes w }
+
 -- G28
 abbrev pub linePattern : Letters → Pattern
 linePattern w = Line (number w letterI) (number w letterJ) (count w letterK)
@@ -130,6 +136,7 @@ blockOf w G66 = patternBlock w (shearPattern w)
 blockOf w G50 = Block.Outside outside.End
 blockOf w G70 = Block.Direct (direct.Move (axes w) (count w letterT))
 blockOf w G72 = Block.Direct (direct.PatternOrigin (axes w))
+blockOf w G73 = Block.Call (call.Mirrored (mirroring w))
 blockOf w G75 = Block.Outside (outside.Copy (copies false w))
 blockOf w G76 = Block.Outside (outside.Copy (copies true w))
 blockOf w G92 = Block.Outside (outside.Machine (pointOfXY w))
@@ -141,7 +148,7 @@ blockOf w LetterM = mBlock (codeOf (at w letterM))
 blockOf w LetterB = Block.Direct (direct.Recall (count w letterB))
 blockOf w LetterU = Block.Outside (outside.Open (count w letterU))
 blockOf w LetterV = Block.Outside (outside.Close (count w letterV))
-blockOf w LetterW = Block.Call (count w letterW)
+blockOf w LetterW = Block.Call (call.Plain (count w letterW))
 blockOf w Unknown = Block.Direct direct.Idle
 
 -- what a block of a kind asks for, with its G90 or G91, from words in hundredths
@@ -160,7 +167,7 @@ unfolding byLetter inPlaces kindOf isListed inHundredths lengthsFit isRanged blo
 decodeWords r ws =
     let w : Words = byLetter ws in
     let k : Kind = kindOf w in
-    cond (inPlaces ws && isListed w k) (ranged (r .setting) k (w .measure) (w .letters)) (fails 5)
+    cond (inPlaces ws && isListed (r .given) w k) (ranged (r .setting) k (w .measure) (w .letters)) (fails 5)
 
 -- 4, and then the words
 abbrev pub decoded : Reader → Option (List LetterWord) → Checked Instruction

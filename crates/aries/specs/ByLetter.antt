@@ -1,4 +1,4 @@
--- The codes of blocks, and the words of a block by letter. (Document 01, "Text, words, units".)
+-- The codes of blocks, and the words of a block by letter. (Document 01, "Text, words, units"; document 02, §2 and §5.)
 use mathlib.Core.Bool.{Bool, true, false, not, cond, _&&_, _||_}
 use mathlib.Core.List.{List, [], _∷_, _++_, foldl}
 use mathlib.Core.Option.{Option, none, some}
@@ -8,7 +8,7 @@ use lib.IntN.{pos, natAbs}
 use lib.ListN.{getD, set, replicate}
 use Rattle.aries.specs.declared.word.Word.{Word}
 use Rattle.aries.specs.declared.block.Kind.{Kind}
-use Rattle.aries.specs.declared.block.Kind.the-variants.{G26, G28, G29, G36, G37, G50, G70, G72, G75, G76, G92, G93, G98, G66}
+use Rattle.aries.specs.declared.block.Kind.the-variants.{G26, G28, G29, G36, G37, G50, G70, G72, G75, G76, G92, G93, G98, G66, G73}
 use Rattle.aries.specs.declared.block.Direct.{Direct}
 use Rattle.aries.specs.declared.block.Direct.the-variants as direct
 use Rattle.aries.specs.declared.block.Measure.{Measure}
@@ -32,11 +32,11 @@ lookup (r ∷ rs) n other = cond (eqb n (r .0)) (r .1) (lookup rs n other)
 abbrev pub patternCodes : List (ℕ × Kind)
 patternCodes = (26, G26) ∷ (28, G28) ∷ (29, G29) ∷ (36, G36) ∷ (37, G37) ∷ (66, G66) ∷ []
 
--- the base codes; every other one is unknown
+-- the codes of blocks; every other one is unknown
 abbrev pub codes : List (ℕ × Kind)
 codes =
     patternCodes
-    ++ (50, G50) ∷ (70, G70) ∷ (72, G72) ∷ (75, G75) ∷ (76, G76) ∷ (92, G92) ∷ (93, G93) ∷ (98, G98) ∷ []
+    ++ (50, G50) ∷ (70, G70) ∷ (72, G72) ∷ (73, G73) ∷ (75, G75) ∷ (76, G76) ∷ (92, G92) ∷ (93, G93) ∷ (98, G98) ∷ []
 
 -- the codes that say how X and Y are read
 abbrev pub measures : List (ℕ × Measure)

@@ -47,7 +47,7 @@ circumstances text line k p =
 abbrev pub CopyLinesRun : Type 0
 CopyLinesRun =
     (text : List ℕ) (next line : ℕ) (l : List ℕ) (ls : List (List ℕ)) (p : Program) (i : Instruction) (k : Copies)
-    → p .stage ≡ Running → mayCome (limits (p .setup .job)) l (p .progress) ≡ true → decode (readerOf (ordinaryFrame (p .setup))) l ≡ passes i → i .block ≡ Outside (Copy k)
+    → p .stage ≡ Running → mayCome (limits (p .setup .job)) l (p .progress) ≡ true → decode (readerOf (ordinaryFrame (p .setup)) (p .progress .state)) l ≡ passes i → i .block ≡ Outside (Copy k)
     → runLineOutside (limits (p .setup .job)) text next line l ls p
     ≡ mapAfter (withProgress p) (run (k .vertical) (circumstances text line k (withProgress p (begun (isCounted l) (i .measure) (p .progress)))))
 

@@ -32,7 +32,7 @@ pub record ComesTo (job : Job) (text : List ℕ) (vertical : Bool) (c : Circumst
   pub program : Program
   pub reached : Reached job text at line (block ∷ after) program
   pub instruction : Instruction
-  pub decoded : decode (readerOf (ordinaryFrame (program .setup))) block ≡ passes instruction
+  pub decoded : decode (readerOf (ordinaryFrame (program .setup)) (program .progress .state)) block ≡ passes instruction
   pub copies : Copies
   pub asks : instruction .block ≡ Outside (Copy copies)
   pub order : copies .vertical ≡ vertical

@@ -17,8 +17,7 @@ use Rattle.aries.specs.declared.state.Progress.{Progress}
 use Rattle.aries.specs.Outcome.{Out, done, refused}
 use Rattle.aries.specs.declared.entry.Hit.{Hit}
 use Rattle.aries.specs.declared.entry.Entry.{Entry}
-use Rattle.aries.specs.declared.entry.Entry.the-variants as Entry
-use Rattle.aries.specs.Entries.{Made, hitsIn}
+use Rattle.aries.specs.Entries.{hitsIn, hitPlaced, placedBy, Made}
 use Rattle.aries.specs.Judging.{Judging, limits, unjudged}
 use Rattle.aries.specs.Moves.{pointAt, zeroPoint, _⊕_, withState}
 use Rattle.aries.specs.Macros.{Body, Bodies, runBody}
@@ -81,12 +80,11 @@ ownEntries c = entriesOf (ownRun c)
 
 -- a hit with a vector added to X and Y
 abbrev pub movedHit : Point → Hit → Hit
-movedHit v h = record { place = h .place ⊕ v; tool = h .tool; nibble = h .nibble }
+movedHit v h = hitPlaced (λ p. p ⊕ v) h
 
 -- an entry moved by a vector: a hit has it added, a stop stays as it was
 abbrev pub movedBy : Point → Entry → Entry
-movedBy v (Entry.Hit h) = Entry.Hit (movedHit v h)
-movedBy v (Entry.Stop optional) = Entry.Stop optional
+movedBy v e = placedBy (λ p. p ⊕ v) e
 
 -- ---- Places, by the paper's sentences on m
 

@@ -1,5 +1,5 @@
--- Which words may stand in a block: their places, and the letters of each code. (Document 01, "Text, words, units";
--- refusal 5.)
+-- Which words may stand in a block: their places, and the letters of each code. (Document 01, "Text, words, units"; document 02,
+-- §2 and §5; refusal 5.)
 use mathlib.Core.Bool.{Bool, true, false, not, cond, _&&_, _||_}
 use mathlib.Core.List.{List, [], _∷_, _++_}
 use mathlib.Core.Option.{Option, none, some}
@@ -7,9 +7,10 @@ use Prim.Native.Nat.{ℕ}
 use Prim.Native.String.{String}
 use lib.Dec.{eqb}
 use Rattle.aries.specs.declared.block.Kind.{Kind}
-use Rattle.aries.specs.declared.block.Kind.the-variants.{G26, G28, G29, G36, G37, G50, G70, G72, G75, G76, G92, G93, G98, Position, Lone, LetterM, LetterB, LetterU, LetterV, LetterW, Unknown, G66}
+use Rattle.aries.specs.declared.block.Kind.the-variants.{G26, G28, G29, G36, G37, G50, G70, G72, G75, G76, G92, G93, G98, Position, Lone, LetterM, LetterB, LetterU, LetterV, LetterW, Unknown, G66, G73}
 use Rattle.aries.specs.declared.block.Measure.{Measure}
 use Rattle.aries.specs.declared.block.Measure.the-variants.{Unchanged, Absolute, Incremental}
+use Rattle.aries.specs.declared.reader.Given.{Given}
 use Rattle.aries.specs.Letters.{letterA, letterB, letterG, letterM, letterN, letterU, letterV, letterW, letterX, letterY}
 use Rattle.aries.specs.Test.{among, every, anyOf, isEmpty, isSome}
 use Rattle.aries.specs.Text.{bytes}
@@ -114,6 +115,7 @@ formOf G66 = form "IJP" "" "QDTA" anyOfBoth
 formOf G50 = form "" "" "" neither
 formOf G70 = form "" "XY" "T" anyOfBoth
 formOf G72 = form "" "XY" "" anyOfBoth
+formOf G73 = form "WQ" "" "XY" neither
 formOf G75 = form "WQ" "" "" neither
 formOf G76 = form "WQ" "" "" neither
 formOf G92 = form "XY" "" "" neither
@@ -165,33 +167,39 @@ besideFits m absoluteOnly = not (isG91 m)
 besideFits m anyOfBoth = true
 besideFits m required = not (isUnchanged m)
 
--- a U or V line starts with its letter, so it has no N; an M code goes by its number and has no sign or point
-abbrev pub kindFits : Letters → Kind → Bool
-kindFits w G26 = true
-kindFits w G28 = true
-kindFits w G29 = true
-kindFits w G36 = true
-kindFits w G37 = true
-kindFits w G66 = true
-kindFits w G50 = true
-kindFits w G70 = true
-kindFits w G72 = true
-kindFits w G75 = true
-kindFits w G76 = true
-kindFits w G92 = true
-kindFits w G93 = true
-kindFits w G98 = true
-kindFits w Position = true
-kindFits w Lone = true
-kindFits w LetterM = isPlain (at w letterM) && hasRow mCodes (codeOf (at w letterM))
-kindFits w LetterB = true
-kindFits w LetterU = not (has w letterN)
-kindFits w LetterV = not (has w letterN)
-kindFits w LetterW = true
-kindFits w Unknown = false
+-- X and Y of a G73 are written, or have been given in one before
+abbrev pub isGiven : Given → Letters → Bool
+isGiven given w = (has w letterX || given .x) && (has w letterY || given .y)
 
--- a block has the letters of its kind
-unfoldable pub isListed : Words → Kind → Bool
+-- a U or V line starts with its letter, so it has no N; an M code goes by its number and has no sign or point; a G73 has its X
+-- and Y
+abbrev pub kindFits : Given → Letters → Kind → Bool
+kindFits given w G26 = true
+kindFits given w G28 = true
+kindFits given w G29 = true
+kindFits given w G36 = true
+kindFits given w G37 = true
+kindFits given w G66 = true
+kindFits given w G50 = true
+kindFits given w G70 = true
+kindFits given w G72 = true
+kindFits given w G73 = isGiven given w
+kindFits given w G75 = true
+kindFits given w G76 = true
+kindFits given w G92 = true
+kindFits given w G93 = true
+kindFits given w G98 = true
+kindFits given w Position = true
+kindFits given w Lone = true
+kindFits given w LetterM = isPlain (at w letterM) && hasRow mCodes (codeOf (at w letterM))
+kindFits given w LetterB = true
+kindFits given w LetterU = not (has w letterN)
+kindFits given w LetterV = not (has w letterN)
+kindFits given w LetterW = true
+kindFits given w Unknown = false
+
+-- a block has the letters of its kind; which of X and Y a G73 has given before counts for G73 alone
+unfoldable pub isListed : Given → Words → Kind → Bool
 unfolding lettersFit
-isListed w k =
-    kindFits (w .letters) k && (besideFits (w .measure) (formOf k .beside) && lettersFit (w .letters) (formOf k))
+isListed given w k =
+    kindFits given (w .letters) k && (besideFits (w .measure) (formOf k .beside) && lettersFit (w .letters) (formOf k))

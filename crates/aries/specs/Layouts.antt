@@ -11,7 +11,6 @@ use Rattle.aries.specs.declared.block.Copies.{Copies}
 use Rattle.aries.specs.declared.setup.Sheet.{Sheet}
 use Rattle.aries.specs.declared.setup.Sheet.the-variants.{Plain, LaidOut}
 use Rattle.aries.specs.declared.setup.Setup.{Setup}
-use Rattle.aries.specs.declared.state.Waiting.the-variants.{Unset}
 use Rattle.aries.specs.declared.state.State.{State}
 use Rattle.aries.specs.declared.state.Frame.{Frame}
 use Rattle.aries.specs.declared.state.Progress.{Progress}
@@ -19,7 +18,7 @@ use Rattle.aries.specs.Outcome.{Out, done, refused, _>>=_, need, given}
 use Rattle.aries.specs.Entries.{Made, noEntry, andThen}
 use Rattle.aries.specs.Judging.{Judging, judged, near}
 use Rattle.aries.specs.Lanes.{lane, along}
-use Rattle.aries.specs.Moves.{pointAt, _⊕_, movedTo, waitingFor, withState}
+use Rattle.aries.specs.Moves.{pointAt, _⊕_, standingAt, withState}
 use Rattle.aries.specs.Macros.{Body, Bodies, mostCalls, runBody}
 use Rattle.aries.specs.Setup.{ordinaryFrame, frameAt}
 
@@ -64,7 +63,7 @@ copyPlace origin l c m = placeAt origin l (c .corner) (columnOf (c .vertical) l 
 -- Each copy begins with the state that the calling block found, except that its origin and current point are its own
 -- place and no pattern origin waits.
 abbrev pub copyStart : State → Point → State
-copyStart s p = movedTo (waitingFor s Unset) p
+copyStart s p = standingAt s p
 
 -- what carries the part out, in a frame
 abbrev pub Part : Type 0

@@ -12,6 +12,7 @@ pub mod Blocks
 pub mod Judging
 pub mod WidePoints
 pub mod Machine
+pub mod Mirrors
 pub mod Entries
 pub mod Tally
 pub mod Moves
@@ -24,10 +25,13 @@ pub mod Layouts
 pub mod Bodies
 pub mod Program
 pub mod Tallying
+pub mod Steady
 pub mod Runs
 pub mod CopyRuns
 pub mod CopyBlocks
 pub mod CopyPairs
+pub mod MirrorRuns
+pub mod MirrorBlocks
 pub mod Refusals
 pub mod Settings
 pub mod FewestSteps

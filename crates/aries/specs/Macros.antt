@@ -1,4 +1,5 @@
--- Macros: the bodies that are stored, and running them. (Document 01, "Macros and layouts"; refusals 3 to 7, 10 and 11.)
+-- Macros: the bodies that are stored, and running them. (Document 01, "Macros and layouts"; document 02, §5; refusals 3 to 7, 10
+-- and 11.)
 use mathlib.Core.Bool.{Bool, not, cond, _||_}
 use mathlib.Core.List.{List, [], _∷_}
 use mathlib.Core.Option.{Option, none, some}
@@ -7,6 +8,8 @@ use lib.Dec.{ltb}
 use lib.ListN.{getD, set, take, drop, replicate}
 use Rattle.aries.specs.declared.block.Direct.{Direct}
 use Rattle.aries.specs.declared.block.Direct.the-variants.{Lone, Punch, Move, PatternOrigin, RunPattern, Recall, Nibble, Idle, Stop}
+use Rattle.aries.specs.declared.block.Call.{Call}
+use Rattle.aries.specs.declared.block.Call.the-variants.{Plain, Mirrored}
 use Rattle.aries.specs.declared.block.Block.{Block}
 use Rattle.aries.specs.declared.block.Block.the-variants as Block
 use Rattle.aries.specs.declared.block.Measure.{Measure}
@@ -22,9 +25,10 @@ use Rattle.aries.specs.Text.{lines, startsWith}
 use Rattle.aries.specs.Reader.{readerOf}
 use Rattle.aries.specs.Numbers.{lastMacro}
 use Rattle.aries.specs.Blocks.{decode}
-use Rattle.aries.specs.Entries.{Made, noEntry, andThen}
+use Rattle.aries.specs.Entries.{Made, noEntry, andThen, mapAfter}
 use Rattle.aries.specs.Judging.{Judging, room}
-use Rattle.aries.specs.Moves.{measuring, dropping, inMode, withState, position, move, setPatternOrigin, stop}
+use Rattle.aries.specs.Mirrors.{mirrored}
+use Rattle.aries.specs.Moves.{measuring, dropping, standingAt, giving, inMode, withState, position, move, setPatternOrigin, stop}
 use Rattle.aries.specs.Patterns.{runPattern, recall}
 
 -- ---- Bodies
@@ -96,12 +100,28 @@ carryDirect j f line (Stop optional) g = stop j line optional g
 abbrev pub Calls : Type 0
 Calls = Frame → ℕ → ℕ → Progress → Out (Made Progress)
 
+-- the state with the current point at the origin of a frame, and no pattern origin waiting
+abbrev pub atOrigin : Frame → Progress → Progress
+atOrigin f g = withState g (standingAt (g .state) (f .origin))
+
+-- G73 runs its macro in the local frame of the origin, seen in a mirror of its own inside those that are open. Its letters are
+-- given as it begins. The macro begins at the origin with no waiting origin, and afterwards it is the same; all else is as the
+-- macro leaves it.
+abbrev pub callMirrored : Calls → Frame → ℕ → ℕ → ℕ → Progress → Out (Made Progress)
+callMirrored call f line way part g =
+    mapAfter (atOrigin f) (call (mirrored way (g .state .spans) f) part line (atOrigin f g))
+
+-- a block that calls a macro: W, with the state as it is, or G73
+abbrev pub carryCall : Calls → Frame → ℕ → Call → Progress → Out (Made Progress)
+carryCall call f line (Plain n) g = call f n line g
+carryCall call f line (Mirrored m) g = callMirrored call f line (m .way) (m .part) (withState g (giving (g .state) (m .axes)))
+
 -- One block of a body that has been decoded and counted. Those that stand only outside bodies, G50, G75, G76, G92, G93 and
 -- G98, are in a wrong place there. No body of a text has a U or V line in it; as a block it would be in a wrong place too.
 unfoldable pub carry : Judging → Calls → Frame → ℕ → Block → Progress → Out (Made Progress)
 unfolding carryDirect
 carry j call f line (Block.Direct d) g = carryDirect j f line d g
-carry j call f line (Block.Call n) g = call f n line g
+carry j call f line (Block.Call c) g = carryCall call f line c g
 carry j call f line (Block.Outside o) g = refused 7 line
 
 -- ---- A block begins
@@ -131,7 +151,7 @@ unfoldable pub begin : Judging → Frame → ℕ → List ℕ → Progress → O
 unfolding decode
 begin j f line l g = do
   _ ← need (mayCome j l g) 3 line
-  i ← inLine line (decode (readerOf f) l)
+  i ← inLine line (decode (readerOf f (g .state)) l)
   done (begunBy l g i)
 
 -- ---- The lines of a body
@@ -153,10 +173,9 @@ unfolding runBlock
 runLines j call f line [] g = noEntry g
 runLines j call f line (l ∷ ls) g = andThen (runLine j call f line l g) (runLines j call f (suc line) ls)
 
--- ---- Calls: W, here; G75 and G76 (Layouts.copyPart); the first run of macros 1 to 59 (Bodies.openBody)
+-- ---- Calls: W and G73, here; G75 and G76 (Layouts.copyPart); the first run of macros 1 to 59 (Bodies.openBody)
 
--- A call of macro n, of what is stored, with d further calls to open, counted with this one. W goes on with the state as
--- it is.
+-- A call of macro n, of what is stored, with d further calls to open, counted with this one. It goes on with the state as it is.
 unfoldable pub call : Judging → Bodies → ℕ → Calls
 unfolding runLines lines
 call j bodies zero f n line g = do

@@ -1,5 +1,5 @@
--- The punching state, positions, hits and stops. (Document 01, "Moving and punching"; document 02, §3; refusals 14 to 17.)
-use mathlib.Core.Bool.{Bool, true, false, cond}
+-- The punching state, positions, hits and stops. (Document 01, "Moving and punching"; document 02, §3 and §5; refusals 14 to 17.)
+use mathlib.Core.Bool.{Bool, true, false, cond, _||_}
 use mathlib.Core.List.{List, [], _∷_}
 use Prim.Native.Nat.{ℕ, _+_, _-_}
 use lib.Dec.{ltb}
@@ -22,6 +22,7 @@ use Rattle.aries.specs.declared.state.Progress.{Progress}
 use Rattle.aries.specs.Outcome.{Out, done, refused, _>>=_, need}
 use Rattle.aries.specs.Numbers.{memoryCount}
 use Rattle.aries.specs.Machine.{covers, inRange}
+use Rattle.aries.specs.Mirrors.{seen}
 use Rattle.aries.specs.declared.entry.Entry.{Entry}
 use Rattle.aries.specs.declared.entry.Entry.the-variants as Entry
 use Rattle.aries.specs.Entries.{Made, noEntry}
@@ -52,6 +53,8 @@ movedTo s p =
       nibble = s .nibble;
       tool = s .tool;
       memories = s .memories;
+      spans = s .spans;
+      given = s .given;
     }
 
 -- the pattern origin that waits, or none
@@ -64,6 +67,8 @@ waitingFor s w =
       nibble = s .nibble;
       tool = s .tool;
       memories = s .memories;
+      spans = s .spans;
+      given = s .given;
     }
 
 -- the mode: M12 sets N, M13 P
@@ -76,6 +81,8 @@ inMode s n =
       incremental = s .incremental;
       tool = s .tool;
       memories = s .memories;
+      spans = s .spans;
+      given = s .given;
     }
 
 -- T chooses the tool. 0 stands for no T: 6 has refused T0.
@@ -88,6 +95,8 @@ choosing s t =
       incremental = s .incremental;
       nibble = s .nibble;
       memories = s .memories;
+      spans = s .spans;
+      given = s .given;
     }
 
 -- A n stores a pattern. 0 stands for no A: 6 has refused A0.
@@ -100,6 +109,8 @@ remembering s n p =
       incremental = s .incremental;
       nibble = s .nibble;
       tool = s .tool;
+      spans = s .spans;
+      given = s .given;
     }
 
 -- G90 or G91 of a block holds for that block already, and on
@@ -117,15 +128,49 @@ measuring s m =
       nibble = s .nibble;
       tool = s .tool;
       memories = s .memories;
+      spans = s .spans;
+      given = s .given;
     }
 
 -- A position block drops a waiting pattern origin; a lone G90 or G91 counts as one.
 abbrev pub dropping : State → State
 dropping s = waitingFor s Unset
 
--- At the start G90 holds, the mode is P, no tool is chosen and nothing is stored.
+-- at a point, with no pattern origin waiting
+abbrev pub standingAt : State → Point → State
+standingAt s p = movedTo (dropping s) p
+
+-- a point, with the axes that are written in place of its own
+abbrev pub writtenOver : Axes → Point → Point
+writtenOver a before = pointAt (cond (a .x .written) (a .x .value) (before .x)) (cond (a .y .written) (a .y .value) (before .y))
+
+-- X and Y given in a G73: the last one for each letter, a and b, and that it has been given
+abbrev pub giving : State → Axes → State
+giving s a =
+    record {
+      spans = writtenOver a (s .spans);
+      given = record { x = a .x .written || s .given .x; y = a .y .written || s .given .y };
+      current = s .current;
+      waiting = s .waiting;
+      incremental = s .incremental;
+      nibble = s .nibble;
+      tool = s .tool;
+      memories = s .memories;
+    }
+
+-- At the start G90 holds, the mode is P, no tool is chosen, nothing is stored and no letter given.
 abbrev pub freshState : State
-freshState = record { current = zeroPoint; waiting = record { origin = Unset }; incremental = false; nibble = false; tool = 0; memories = replicate memoryCount (record { stored = Stored.Empty }) }
+freshState =
+    record {
+      current = zeroPoint;
+      waiting = record { origin = Unset };
+      incremental = false;
+      nibble = false;
+      tool = 0;
+      memories = replicate memoryCount (record { stored = Stored.Empty });
+      spans = zeroPoint;
+      given = record { x = false; y = false };
+    }
 
 -- nothing has been carried out and no entry made
 abbrev pub freshProgress : Progress
@@ -163,29 +208,31 @@ enter j line e g = do
 abbrev pub hitOf : State → Point → Entry
 hitOf s p = Entry.Hit (record { place = p; tool = s .tool; nibble = s .nibble })
 
--- a hit at p, which becomes the current point: 14 to 17
+-- a hit at p, which becomes the current point: 14 to 17. The hit is made, and judged by 15 and 16, where p is seen after all
+-- mirrors.
 unfoldable pub punch : Judging → Frame → ℕ → Point → Progress → Out (Made Progress)
-unfolding near covers
+unfolding near covers seen
 punch j f line p g = do
   _ ← need (ltb 0 (g .state .tool)) 14 line
-  _ ← need (judged (j .bounds) (near p)) 15 line
-  _ ← need (judged (j .bounds) (inRange f p)) 16 line
-  enter j line (hitOf (g .state) p) (withState g (movedTo (g .state) p))
+  _ ← need (judged (j .bounds) (near (seen f p))) 15 line
+  _ ← need (judged (j .bounds) (inRange f (seen f p))) 16 line
+  enter j line (hitOf (g .state) (seen f p)) (withState g (movedTo (g .state) p))
 
 -- A position block, X or Y with or without T, punches. T chooses the tool first.
 unfoldable pub position : Judging → Frame → ℕ → Axes → ℕ → Progress → Out (Made Progress)
 unfolding punch
 position j f line a t g = punch j f line (target f (g .state) a) (withState g (dropping (choosing (g .state) t)))
 
--- With G70 it moves only: no hit, so no tool is needed; its end is judged by 15 and 16.
+-- With G70 it moves only: no hit, so no tool is needed; its end is judged by 15 and 16 where it is seen after all mirrors.
 unfoldable pub move : Judging → Frame → ℕ → Axes → ℕ → Progress → Out (Made Progress)
-unfolding near covers
+unfolding near covers seen
 move j f line a t g = do
-  _ ← need (judged (j .bounds) (near (target f (g .state) a))) 15 line
-  _ ← need (judged (j .bounds) (inRange f (target f (g .state) a))) 16 line
+  _ ← need (judged (j .bounds) (near (seen f (target f (g .state) a)))) 15 line
+  _ ← need (judged (j .bounds) (inRange f (seen f (target f (g .state) a)))) 16 line
   noEntry (withState g (movedTo (dropping (choosing (g .state) t)) (target f (g .state) a)))
 
 -- G72 sets the waiting pattern origin by the same rules, an omitted axis being the current point's; the current point stays.
+-- The origin is neither a hit nor the end of a move, so 15 judges it as written, in a mirrored macro too.
 unfoldable pub setPatternOrigin : Judging → Frame → ℕ → Axes → Progress → Out (Made Progress)
 unfolding near
 setPatternOrigin j f line a g = do

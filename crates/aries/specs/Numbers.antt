@@ -1,5 +1,5 @@
 -- Numbers: lengths and angles, whole numbers, and their ranges. (Document 01, "Text, words, units", "Patterns", "Macros and
--- layouts"; document 02, §1 and §2; refusal 6.)
+-- layouts"; document 02, §1, §2 and §5; refusal 6.)
 use mathlib.Core.Bool.{Bool, true, not, cond, _&&_, _||_}
 use mathlib.Core.List.{List, [], _∷_}
 use Prim.Native.Nat.{ℕ}
@@ -11,7 +11,7 @@ use Rattle.aries.specs.declared.reader.Setting.{Setting}
 use Rattle.aries.specs.declared.reader.Setting.the-variants.{Hundredths, Millimetres}
 use Rattle.aries.specs.declared.word.Word.{Word}
 use Rattle.aries.specs.declared.block.Kind.{Kind}
-use Rattle.aries.specs.declared.block.Kind.the-variants.{G26, G28, G29, G36, G37, G50, G70, G72, G75, G76, G92, G93, G98, Position, Lone, LetterM, LetterB, LetterU, LetterV, LetterW, Unknown, G66}
+use Rattle.aries.specs.declared.block.Kind.the-variants.{G26, G28, G29, G36, G37, G50, G70, G72, G75, G76, G92, G93, G98, Position, Lone, LetterM, LetterB, LetterU, LetterV, LetterW, Unknown, G66, G73}
 use Rattle.aries.specs.Letters.{letterA, letterB, letterD, letterI, letterJ, letterK, letterN, letterP, letterQ, letterT, letterU, letterV, letterW, letterX, letterY, indexOf}
 use Rattle.aries.specs.Test.{within, every}
 use Rattle.aries.specs.Text.{bytes}
@@ -49,6 +49,7 @@ lengthsOf G66 = "IJPQD"
 lengthsOf G50 = ""
 lengthsOf G70 = "XY"
 lengthsOf G72 = "XY"
+lengthsOf G73 = "XY"
 lengthsOf G75 = ""
 lengthsOf G76 = ""
 lengthsOf G92 = "XY"
@@ -132,9 +133,9 @@ gridSteps = whole 0 patternMost
 abbrev pub layoutSteps : Range
 layoutSteps = whole 0 99
 
--- G75 and G76: the macro and the corner
-abbrev pub copyRanges : List (ℕ × Range)
-copyRanges = (letterW, macroNumber) ∷ (letterQ, whole 1 4) ∷ []
+-- G73, G75 and G76: the macro, and the way it is mirrored or the corner
+abbrev pub callRanges : List (ℕ × Range)
+callRanges = (letterW, macroNumber) ∷ (letterQ, whole 1 4) ∷ []
 
 -- the letters of a kind of block whose numbers have a range; others are lengths or angles of any sign
 abbrev pub rangesOf : Kind → List (ℕ × Range)
@@ -147,8 +148,9 @@ rangesOf G66 = []
 rangesOf G50 = []
 rangesOf G70 = []
 rangesOf G72 = []
-rangesOf G75 = copyRanges
-rangesOf G76 = copyRanges
+rangesOf G73 = callRanges
+rangesOf G75 = callRanges
+rangesOf G76 = callRanges
 rangesOf G92 = []
 rangesOf G93 = []
 rangesOf G98 =

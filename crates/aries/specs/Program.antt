@@ -68,7 +68,7 @@ isMachine (Outside.Copy c) = false
 -- a block is G92
 abbrev pub startsProgram : Block → Bool
 startsProgram (Block.Direct d) = false
-startsProgram (Block.Call n) = false
+startsProgram (Block.Call c) = false
 startsProgram (Block.Outside o) = isMachine o
 
 -- The first block is G92, G92 comes once, and nothing follows G50.
@@ -125,7 +125,7 @@ carryInside j text line b p =
 unfoldable pub carryOut : Judging → List ℕ → ℕ → ℕ → List (List ℕ) → Block → Program → Out (Made Program)
 unfolding carry call carryOutside bodiesOf
 carryOut j text next line ls (Block.Direct d) p = carryInside j text line (Block.Direct d) p
-carryOut j text next line ls (Block.Call n) p = carryInside j text line (Block.Call n) p
+carryOut j text next line ls (Block.Call c) p = carryInside j text line (Block.Call c) p
 carryOut j text next line ls (Block.Outside o) p = carryOutside j text next line ls o p
 
 -- ---- Lines

@@ -12,7 +12,9 @@ use Rattle.aries.specs.declared.point.Point.{Point}
 use Rattle.aries.specs.declared.reader.Setting.{Setting}
 use Rattle.aries.specs.declared.reader.Setting.the-variants.{Hundredths}
 use Rattle.aries.specs.declared.setup.Program.{Program}
+use Rattle.aries.specs.declared.reader.Given.{Given}
 use Rattle.aries.specs.declared.state.Frame.{Frame}
+use Rattle.aries.specs.declared.state.State.{State}
 use Rattle.aries.specs.declared.state.Progress.{Progress}
 use Rattle.aries.specs.declared.word.Word.{Word}
 use Rattle.aries.specs.Outcome.{Out, done, _>>=_, need, inLine, Checked, passes, fails}
@@ -31,25 +33,26 @@ use Rattle.aries.specs.CopyBlocks.{Reached}
 
 -- ---- Setting 1
 
--- the words of a block by document 01: 5, then 6, of the numbers as they are written
-abbrev pub baseWords : List LetterWord → Checked Instruction
-baseWords ws =
+-- the words of a block by document 01: 5, then 6, of the numbers as they are written; which letters G73 blocks have given is said
+-- beside them
+abbrev pub baseWords : Given → List LetterWord → Checked Instruction
+baseWords given ws =
     let w : Words = byLetter ws in
     let k : Kind = kindOf w in
-    cond (inPlaces ws && isListed w k)
+    cond (inPlaces ws && isListed given w k)
     (cond (isRanged (w .letters) k) (passes (instructionOf k (w .measure) (w .letters))) (fails 6))
     (fails 5)
 
 -- a line by document 01: 4, and then the words
-abbrev pub baseDecoded : Option (List LetterWord) → Checked Instruction
-baseDecoded none = fails 4
-baseDecoded (some ws) = baseWords ws
+abbrev pub baseDecoded : Given → Option (List LetterWord) → Checked Instruction
+baseDecoded given none = fails 4
+baseDecoded given (some ws) = baseWords given ws
 
 -- a block begins by document 01: 3, then 4 to 6
 abbrev pub baseBegin : Judging → ℕ → List ℕ → Progress → Out Begun
 baseBegin j line l g = do
   _ ← need (mayCome j l g) 3 line
-  i ← inLine line (baseDecoded (words l))
+  i ← inLine line (baseDecoded (g .state .given) (words l))
   done (begunBy l g i)
 
 -- At every number but 0 a text means what document 01 says: it means what it does at 1, and there each block begins and
@@ -57,7 +60,7 @@ baseBegin j line l g = do
 pub record BaseKept : Type 0 where
   pub others : (number : ℤ) → (number ≡ pos 0 → ⊥) → (text : List ℕ) (numbers : ℕ) → expand number text numbers ≡ expand (pos 1) text numbers
   pub begins : (j : Judging) (f : Frame) (line : ℕ) (l : List ℕ) (g : Progress) → f .job .setting ≡ Hundredths → begin j f line l g ≡ baseBegin j line l g
-  pub closes : (n : ℕ) (l : List ℕ) → isOwnClose (readerAt Hundredths) n l ≡ isCloseOf n (baseDecoded (words l))
+  pub closes : (given : Given) (n : ℕ) (l : List ℕ) → isOwnClose (readerAt Hundredths given) n l ≡ isCloseOf n (baseDecoded given (words l))
 
 -- ---- The whole text
 
@@ -65,9 +68,9 @@ pub record BaseKept : Type 0 where
 -- handed on as it is.
 abbrev pub SettingHolds : Type 0
 SettingHolds =
-    (job : Job) (text : List ℕ) (at line : ℕ) (ls : List (List ℕ)) (p : Program) → Reached job text at line ls p → (place : Point)
-    → (readerOf (ordinaryFrame (p .setup)) ≡ readerAt (job .setting))
-    × (readerOf (frameAt (ordinaryFrame (p .setup)) place) ≡ readerAt (job .setting))
+    (job : Job) (text : List ℕ) (at line : ℕ) (ls : List (List ℕ)) (p : Program) → Reached job text at line ls p → (place : Point) (s : State)
+    → (readerOf (ordinaryFrame (p .setup)) s .setting ≡ job .setting)
+    × (readerOf (frameAt (ordinaryFrame (p .setup)) place) s .setting ≡ job .setting)
 
 -- ---- Both settings
 

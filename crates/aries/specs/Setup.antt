@@ -13,7 +13,8 @@ use Rattle.aries.specs.declared.setup.Setup.{Setup}
 use Rattle.aries.specs.declared.state.Frame.{Frame}
 use Rattle.aries.specs.Outcome.{Out, done, refused, _>>=_, need}
 use Rattle.aries.specs.Judging.{Judging, judged, near}
-use Rattle.aries.specs.Moves.{pointAt, zeroPoint, _⊕_}
+use Rattle.aries.specs.Mirrors.{noMirror}
+use Rattle.aries.specs.Moves.{zeroPoint, _⊕_, writtenOver}
 
 -- At the start reference and offset are zero. G92 names the machine before any range is judged.
 abbrev pub freshSetup : Job → Setup
@@ -22,15 +23,15 @@ freshSetup job = record { job = job; machine = Aries222; sheet = Plain; offset =
 abbrev pub withMachine : Setup → Machine → Setup
 withMachine s m = record { job = s .job; machine = m; sheet = s .sheet; offset = s .offset; origin = s .origin }
 
--- ---- Frames: where X and Y are measured from, and the range that is judged
+-- ---- Frames: where X and Y are measured from, the range that is judged, and the mirrors that are open
 
--- the frame of blocks outside bodies
+-- the frame of blocks outside bodies, where no mirror is open
 abbrev pub ordinaryFrame : Setup → Frame
-ordinaryFrame s = record { job = s .job; machine = s .machine; origin = s .origin }
+ordinaryFrame s = record { job = s .job; machine = s .machine; origin = s .origin; mirror = noMirror }
 
 -- the frame of a copy: its origin is its own place
 abbrev pub frameAt : Frame → Point → Frame
-frameAt f p = record { job = f .job; machine = f .machine; origin = p }
+frameAt f p = record { job = f .job; machine = f .machine; origin = p; mirror = f .mirror }
 
 -- ---- G93 and G98: the origin is reference plus offset
 
@@ -52,4 +53,4 @@ setOrigin j line sheet offset s = do
 
 -- G93 sets the offset of the axes it names, whether G90 or G91 holds; an axis not named keeps its offset.
 abbrev pub offsetBy : Axes → Point → Point
-offsetBy a before = pointAt (cond (a .x .written) (a .x .value) (before .x)) (cond (a .y .written) (a .y .value) (before .y))
+offsetBy a before = writtenOver a before

@@ -1,3 +1,5 @@
+ghost use mathlib.Core.Path.{_≡_};
+ghost use Rattle.aries.specs.Moves.{writtenOver};
 use crate::point::Point;
 
 // The kinds of block: by the G code or, without one, by the letters.
@@ -24,6 +26,7 @@ pub enum Kind {
     LetterW,
     Unknown,
     G66,
+    G73,
 }
 
 // One axis of a block: its value where it is written.
@@ -36,6 +39,24 @@ pub struct Axis {
 pub struct Axes {
     pub x: Axis,
     pub y: Axis,
+}
+
+impl Axes {
+    // A point, with the axes that are written in place of its own.
+    pub fn over(self, before: Point) -> Point
+        ensures { λ r. ⌜ r ≡ writtenOver self before ⌝ }
+    {
+        let x = self.x;
+        let y = self.y;
+        let mut point = before;
+        if x.written {
+            point.x = x.value;
+        }
+        if y.written {
+            point.y = y.value;
+        }
+        point
+    }
 }
 
 // Steps from the first place of a grid or layout to the last one, along X and along Y: one less than its columns and
@@ -149,10 +170,25 @@ pub enum Outside {
     Copy(Copies),
 }
 
-// What a block asks for, by where it may stand: direct blocks and calls, by W, stand anywhere.
+// A G73 block: the part that it runs, how that is mirrored, by Q, and X and Y, where they are written.
+pub struct Mirroring {
+    pub part: u8,
+    pub way: u8,
+    pub axes: Axes,
+}
+
+// A block that calls a macro.
+pub enum Call {
+    // W
+    Plain(u8),
+    // G73
+    Mirrored(Mirroring),
+}
+
+// What a block asks for, by where it may stand: direct blocks and calls stand anywhere.
 pub enum Block {
     Direct(Direct),
-    Call(u8),
+    Call(Call),
     Outside(Outside),
 }
 

@@ -6,6 +6,7 @@ pub mod entry; // the entries of the list
 pub mod job; // what the caller fixes
 pub mod machine; // the two machines and their punching range
 pub mod macros; // the bodies that are stored
+pub mod mirror; // how a frame is seen while mirrors are open
 pub mod point; // points of the sheet
 pub mod reader; // what a block is read by
 pub mod refusal; // the refusals by their numbers

@@ -1,4 +1,6 @@
 ghost use mathlib.Core.Path.{_≡_};
+ghost use Prim.Native.Nat.{_≤_};
+ghost use lib.IntN.{natAbs};
 ghost use Rattle.aries.specs.WidePoints.{pointOf, located};
 
 // The largest size of a coordinate, and at setting 0 of a length or an angle, in hundredths.
@@ -23,6 +25,19 @@ pub enum Located {
 }
 
 impl WidePoint {
+    // The point of a place that fits.
+    pub fn narrow(self) -> Point
+        requires { ⌜ (natAbs (self .x) ≤ 2147483647) × (natAbs (self .y) ≤ 2147483647) ⌝ }
+        ensures { λ r. ⌜ r ≡ pointOf self ⌝ }
+    {
+        let x = self.x;
+        let y = self.y;
+        Point {
+            x: signed::narrow(x),
+            y: signed::narrow(y),
+        }
+    }
+
     // The point of a place, if both coordinates are within the largest size.
     pub fn located(self) -> Located
         ensures { λ r. ⌜ r ≡ located (pointOf self) ⌝ }

@@ -21,7 +21,14 @@ impl Setting {
     }
 }
 
-// What a block is read by, besides its words.
+// Whether a G73 has given its X, and its Y.
+pub struct Given {
+    pub x: bool,
+    pub y: bool,
+}
+
+// What a block is read by, besides its words: the setting, and which letters a G73 has given.
 pub struct Reader {
     pub setting: Setting,
+    pub given: Given,
 }

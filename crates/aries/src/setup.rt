@@ -2,6 +2,7 @@ use crate::block::Layout;
 use crate::job::Job;
 use crate::machine::Machine;
 use crate::macros::Macros;
+use crate::mirror::Mirror;
 use crate::point::Point;
 use crate::state::Frame;
 use crate::state::Progress;
@@ -61,10 +62,12 @@ impl Setup {
         let job = self.job;
         let machine = self.machine;
         let origin = self.origin;
+        let mirror = Mirror::none();
         Frame {
             job,
             machine,
             origin,
+            mirror,
         }
     }
 

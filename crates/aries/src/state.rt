@@ -1,9 +1,12 @@
+use crate::block::Axes;
 use crate::block::Measure;
 use crate::block::Pattern;
 use crate::job::Job;
 use crate::machine::Machine;
+use crate::mirror::Mirror;
 use crate::point::Point;
 use crate::point::WidePoint;
+use crate::reader::Given;
 use crate::reader::Reader;
 ghost use mathlib.Core.Path.{_≡_};
 ghost use mathlib.Core.Bool.{true};
@@ -19,17 +22,21 @@ ghost use Rattle.aries.specs.Moves.{
   remembering,
   measuring,
   dropping,
+  standingAt,
+  giving,
   freshState,
   freshProgress,
   withState,
 };
 ghost use Rattle.aries.specs.Patterns.{startOf, emptyMemory};
 ghost use Rattle.aries.specs.Macros.{begun};
-ghost use Rattle.aries.specs.Judging.{mostBlocks};
+ghost use Rattle.aries.specs.Judging.{mostBlocks, near};
 ghost use Rattle.aries.specs.Machine.{inRange};
-ghost use Rattle.aries.specs.WidePoints.{pointOf};
-ghost use Rattle.aries.specs.Reader.{readerOf};
+ghost use Rattle.aries.specs.WidePoints.{pointOf, Moderate};
+ghost use Rattle.aries.specs.Mirrors.{mirrored, seen};
+ghost use Rattle.aries.specs.Reader.{readerAt};
 ghost use Rattle.aries.specs.Setup.{frameAt};
+ghost use Rattle.aries.specs.Steady.{Steady};
 
 // The pattern origin that G72 set and no pattern has used up yet.
 pub enum Waiting {
@@ -56,18 +63,20 @@ pub struct Memory {
 pub const MEMORIES: usize = 5;
 
 // The punching state: what a block of a body leaves to the next. A tool of 0 is none chosen. The memories, most of its
-// bytes, stand first, where they are copied aligned.
+// bytes, stand first, where they are copied aligned. Spans are X and Y as G73 blocks have given them last, and zero before.
 pub struct State {
     pub memories: [Memory; MEMORIES],
     pub current: Point,
+    pub spans: Point,
     pub waiting: Pending,
     pub incremental: bool,
     pub nibble: bool,
     pub tool: u8,
+    pub given: Given,
 }
 
 impl State {
-    // The state at the start: G90 holds, the mode is P, no tool is chosen and nothing is stored.
+    // The state at the start: G90 holds, the mode is P, no tool is chosen, nothing is stored and no letter given.
     pub fn fresh() -> State
         ensures { λ r. ⌜ r ≡ freshState ⌝ }
     {
@@ -79,13 +88,16 @@ impl State {
         let waiting = Pending {
             origin: Waiting::Unset,
         };
+        let given = Given { x: false, y: false };
         State {
             current,
+            spans: current,
             waiting,
             incremental: false,
             nibble: false,
             tool: 0,
             memories,
+            given,
         }
     }
 
@@ -118,6 +130,30 @@ impl State {
         ensures { λ r. ⌜ r ≡ waitingFor self (At p) ⌝ }
     {
         self.waiting_for(Waiting::At(p))
+    }
+
+    // The state at a point, with no pattern origin waiting.
+    pub fn standing_at(self, p: Point) -> State
+        ensures { λ r. ⌜ r ≡ standingAt self p ⌝ }
+    {
+        self.dropping().moved_to(p)
+    }
+
+    // The state with X and Y of a G73 given, those that are written.
+    pub fn giving(mut self, axes: Axes) -> State
+        ensures { λ r. ⌜ r ≡ giving self axes ⌝ }
+    {
+        let x = axes.x;
+        let y = axes.y;
+        let before = self.given;
+        let given = Given {
+            x: x.written | before.x,
+            y: y.written | before.y,
+        };
+        let spans = axes.over(self.spans);
+        self.given = given;
+        self.spans = spans;
+        self
     }
 
     // The state in mode N, or with false in mode P.
@@ -197,11 +233,13 @@ impl State {
     }
 }
 
-// What a block is carried out in: the caller's job, where X and Y are measured from, and the machine whose range is judged.
+// What a block is carried out in: the caller's job, where X and Y are measured from, the machine whose range is judged, and
+// how points are seen in the mirrors that are open.
 pub struct Frame {
     pub job: Job,
     pub machine: Machine,
     pub origin: Point,
+    pub mirror: Mirror,
 }
 
 impl Frame {
@@ -213,13 +251,42 @@ impl Frame {
         self
     }
 
-    // What blocks are read by: the setting of the job.
-    pub fn reader(self) -> Reader
-        ensures { λ r. ⌜ r ≡ readerOf self ⌝ }
+    // The same frame with the mirror of a G73 open, by its Q and its a and b.
+    pub fn mirrored(mut self, way: u8, spans: Point) -> Frame
+        requires { ⌜ (Steady 0 self) × (near spans ≡ true) ⌝ }
+        ensures { λ r. ⌜ r ≡ mirrored way spans self ⌝ }
+    {
+        let before = self.mirror;
+        let mirror = before.opened(way, spans);
+        self.mirror = mirror;
+        self
+    }
+
+    // Where a place is seen after all mirrors.
+    pub fn seen(self, p: WidePoint) -> WidePoint
+        requires { ⌜ Moderate p ⌝ }
+        ensures { λ r. ⌜ pointOf r ≡ seen self (pointOf p) ⌝ }
+    {
+        let mirror = self.mirror;
+        let x = mirror.x;
+        let y = mirror.y;
+        let origin_x = self.origin.x;
+        let origin_y = self.origin.y;
+        let p_x = p.x;
+        let p_y = p.y;
+        WidePoint {
+            x: x.seen_from(origin_x, p_x),
+            y: y.seen_from(origin_y, p_y),
+        }
+    }
+
+    // What blocks are read by: the setting of the job, and the letters given.
+    pub fn reader(self, given: Given) -> Reader
+        ensures { λ r. ⌜ r ≡ readerAt (self .job .setting) given ⌝ }
     {
         let job = self.job;
         let setting = job.setting;
-        Reader { setting }
+        Reader { setting, given }
     }
 
     // Whether a place is in the punching range.

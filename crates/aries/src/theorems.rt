@@ -2,6 +2,8 @@ ghost use Rattle.aries.specs.CopyRuns.{BothOrNeither, EqualExactlyWhen, 
 ghost use Rattle.aries.specs.CopyBlocks.{CopyLinesRun, ReachedOrdinary, OriginMoves};
 ghost use Rattle.aries.specs.CopyPairs.{PairAlike};
 ghost use Rattle.aries.specs.Plates.{PlatesHold, MillimetresHold};
+ghost use Rattle.aries.specs.MirrorRuns.{MirrorsCompose, MirrorsUndone, MirrorSentence};
+ghost use Rattle.aries.specs.MirrorBlocks.{MirrorLinesRun};
 ghost use Rattle.aries.specs.Refusals.{RefusalsNamed};
 ghost use Rattle.aries.specs.Settings.{BaseKept, SettingHolds, PointedAlike};
 ghost use Rattle.aries.specs.FewestSteps.{FewestSteps};
@@ -48,6 +50,27 @@ pub fn origin_moves()
 // A sheet by G75 in one text and by G76 in another is a pair that the theorems compare.
 pub fn pair_alike()
     ensures { λ _. ⌜ PairAlike ⌝ }
+{}
+
+// With one a and b, mirrors compose: twice by one Q is by Q1, by Q2 and Q3 is by Q4.
+pub fn mirrors_compose()
+    ensures { λ _. ⌜ MirrorsCompose ⌝ }
+{}
+
+// Where a point is seen, and which point is seen there, undo each other.
+pub fn mirrors_undone()
+    ensures { λ _. ⌜ MirrorsUndone ⌝ }
+{}
+
+// A macro that is accepted by Q1 and by another Q from one state makes the same entries, each hit turned as Q says, and leaves
+// the same state. Where no other mirror is open, X is turned into a - X and Y into b - Y.
+pub fn mirror_sentence()
+    ensures { λ _. ⌜ MirrorSentence ⌝ }
+{}
+
+// A line of a program that asks for G73, in a body or outside, is a run that the mirror sentence speaks of.
+pub fn mirror_lines_run()
+    ensures { λ _. ⌜ MirrorLinesRun ⌝ }
 {}
 
 // Demand 1: a refusal has a number from 1 to 18; its line is 0 exactly for 1, and else one of the text.

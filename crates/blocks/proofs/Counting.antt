@@ -12,8 +12,9 @@ use lib.Seq.{getD-set-same, getD-set-other}
 use borrow.Author.Tests.{not-true, eqb-true, eqb-false, ne-eqb, leb-true, le-leb}
 use Rattle.signed.proofs.Tests.{and-left, and-right}
 use Rattle.aries.specs.declared.word.Word.{Word}
+use Rattle.aries.specs.declared.reader.Given.{Given}
 use Rattle.aries.specs.declared.block.Kind.{Kind}
-use Rattle.aries.specs.declared.block.Kind.the-variants.{G26, G28, G29, G36, G37, G50, G70, G72, G75, G76, G92, G93, G98, Position, Lone, LetterM, LetterB, LetterU, LetterV, LetterW, Unknown, G66}
+use Rattle.aries.specs.declared.block.Kind.the-variants.{G26, G28, G29, G36, G37, G50, G70, G72, G75, G76, G92, G93, G98, Position, Lone, LetterM, LetterB, LetterU, LetterV, LetterW, Unknown, G66, G73}
 use Rattle.aries.specs.Letters.{letterG, letterN, indexOf}
 use Rattle.aries.specs.Test.{among, every, anyOf}
 use Rattle.aries.specs.Text.{bytes, isCapital}
@@ -97,6 +98,7 @@ module _ (w : Letters) where
   listed-once G50 = refl
   listed-once G70 = simp (zero-add, add-left-comm)
   listed-once G72 = simp zero-add
+  listed-once G73 = simp (zero-add, add-left-comm)
   listed-once G75 = simp (zero-add, add-left-comm)
   listed-once G76 = simp (zero-add, add-left-comm)
   listed-once G92 = simp zero-add
@@ -249,13 +251,13 @@ all-counted ws f p = after-counted [] ws f p none-counted .1
 
 -- a block is refused by counting where it is by the definition
 pub is-counted :
-    (formed : Bool) (end : ℕ) (ws : List LetterWord) (k : Kind) → AllFormed ws
-    → isCounted (byLetter ws .letters) (summaryOf formed end ws) k ≡ (inPlaces ws && isListed (byLetter ws) k)
+    (given : Given) (formed : Bool) (end : ℕ) (ws : List LetterWord) (k : Kind) → AllFormed ws
+    → isCounted given (byLetter ws .letters) (summaryOf formed end ws) k ≡ (inPlaces ws && isListed given (byLetter ws) k)
 unfolding isCounted isListed summaryOf
-is-counted formed end ws k f = go (inPlaces ws) refl
+is-counted given formed end ws k f = go (inPlaces ws) refl
   where
     go :
         (p : Bool) → inPlaces ws ≡ p
-        → isCounted (byLetter ws .letters) (summaryOf formed end ws) k ≡ (inPlaces ws && isListed (byLetter ws) k)
+        → isCounted given (byLetter ws .letters) (summaryOf formed end ws) k ≡ (inPlaces ws && isListed given (byLetter ws) k)
     go false p = simp p
     go true p = simp (p, measure-back (byLetter ws .measure), count-fits (byLetter ws .letters) (othersIn ws) k (all-counted ws f p))

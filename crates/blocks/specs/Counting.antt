@@ -4,6 +4,7 @@ use mathlib.Core.List.{List, [], _∷_}
 use Prim.Native.Nat.{ℕ, _+_}
 use lib.Dec.{leb, eqb}
 use lib.ListN.{length}
+use Rattle.aries.specs.declared.reader.Given.{Given}
 use Rattle.aries.specs.declared.block.Kind.{Kind}
 use Rattle.aries.specs.Test.{isEmpty}
 use Rattle.aries.specs.Text.{bytes}
@@ -32,8 +33,8 @@ countFits w others f =
     eqb (present w (bytes (f .must))) (length (bytes (f .must)))
     && (oneCounted w (bytes (f .oneOf)) && eqb others (present w (listed f)))
 
--- a block of a kind has the letters of that kind, each in its place
-unfoldable pub isCounted : Letters → Summary → Kind → Bool
-isCounted w s k =
+-- a block of a kind has the letters of that kind, each in its place, where G73 blocks have given X and Y or not
+unfoldable pub isCounted : Given → Letters → Summary → Kind → Bool
+isCounted given w s k =
     not (s .misplaced)
-    && (kindFits w k && (besideFits (measureBy s) (formOf k .beside) && countFits w (s .others) (formOf k)))
+    && (kindFits given w k && (besideFits (measureBy s) (formOf k .beside) && countFits w (s .others) (formOf k)))

@@ -21,6 +21,7 @@ fn coded_kind(code: u32) -> Kind
         66 => Kind::G66,
         70 => Kind::G70,
         72 => Kind::G72,
+        73 => Kind::G73,
         75 => Kind::G75,
         76 => Kind::G76,
         92 => Kind::G92,

@@ -4,13 +4,14 @@ ghost use mathlib.Core.List.{[], _∷_};
 ghost use Prim.Native.Nat.{_+_, _≤_};
 ghost use lib.Dec.{eqb};
 ghost use Rattle.aries.specs.ByLetter.{hasRow, mCodes, isPlain, codeOf};
-ghost use Rattle.aries.specs.Forms.{neither, form, formOf, besideFits, kindFits};
+ghost use Rattle.aries.specs.Forms.{neither, form, formOf, besideFits, isGiven, kindFits};
 ghost use Rattle.blocks.specs.Counting.{present, countFits, isCounted};
 ghost use Rattle.words.specs.Keeping.{lettersOf, measureBy};
 use crate::lookup::has;
 use crate::lookup::is_plain;
 use crate::lookup::size_of;
 use aries::block::Kind;
+use aries::reader::Given;
 use aries::word::Word;
 use words::Summary;
 use words::word_at;
@@ -63,6 +64,16 @@ fn axes_fit(forms: &[u8; 26], numbers: &[i32; 26], summary: Summary, tool: bool)
     (1 <= axes) & (summary.others == axes + may)
 }
 
+// Whether W and Q stand in a block, and no other words but, with axes, X and Y.
+fn part_fits(forms: &[u8; 26], numbers: &[i32; 26], summary: Summary, axes: bool) -> bool
+    ensures { λ r. ⌜ r ≡ countFits (lettersOf (now (forms .entry)) (now (numbers .entry))) (summary .others) (form "WQ" "" (cond axes "XY" "") neither) ⌝ }
+{
+    let part = two(forms, numbers, b'W', b'Q');
+    let xy = two(forms, numbers, b'X', b'Y');
+    let may = if axes { xy } else { 0 };
+    all_fit(summary.others, 2, part, may)
+}
+
 // Whether a block has the letters of its kind and no others.
 fn form_fits(forms: &[u8; 26], numbers: &[i32; 26], summary: Summary, kind: Kind) -> bool
     ensures { λ r. ⌜ r ≡ countFits (lettersOf (now (forms .entry)) (now (numbers .entry))) (summary .others) (formOf kind) ⌝ }
@@ -89,7 +100,8 @@ fn form_fits(forms: &[u8; 26], numbers: &[i32; 26], summary: Summary, kind: Kind
         ),
         Kind::G70 | Kind::Position => axes_fit(forms, numbers, summary, true),
         Kind::G72 | Kind::G93 => axes_fit(forms, numbers, summary, false),
-        Kind::G75 | Kind::G76 => all_fit(n, 2, two(forms, numbers, b'W', b'Q'), 0),
+        Kind::G73 => part_fits(forms, numbers, summary, true),
+        Kind::G75 | Kind::G76 => part_fits(forms, numbers, summary, false),
         Kind::G92 => all_fit(n, 2, two(forms, numbers, b'X', b'Y'), 0),
         Kind::G98 => all_fit(
             n,
@@ -127,11 +139,19 @@ fn is_m_code(v: Word) -> bool
     is_plain(v) & ((n == 0) | (n == 1) | (n == 8) | (n == 9) | (n == 12) | (n == 13))
 }
 
-// What a kind asks of its words besides.
-fn kind_fits(forms: &[u8; 26], numbers: &[i32; 26], kind: Kind) -> bool
-    ensures { λ r. ⌜ r ≡ kindFits (lettersOf (now (forms .entry)) (now (numbers .entry))) kind ⌝ }
+// Whether X and Y of a G73 are written, or have been given in one before.
+fn is_given(given: Given, forms: &[u8; 26], numbers: &[i32; 26]) -> bool
+    ensures { λ r. ⌜ r ≡ isGiven given (lettersOf (now (forms .entry)) (now (numbers .entry))) ⌝ }
+{
+    (has(forms, numbers, b'X') | given.x) & (has(forms, numbers, b'Y') | given.y)
+}
+
+// What a kind asks of its words besides. Which of X and Y a G73 has given before counts for G73 alone.
+fn kind_fits(given: Given, forms: &[u8; 26], numbers: &[i32; 26], kind: Kind) -> bool
+    ensures { λ r. ⌜ r ≡ kindFits given (lettersOf (now (forms .entry)) (now (numbers .entry))) kind ⌝ }
 {
     match kind {
+        Kind::G73 => is_given(given, forms, numbers),
         Kind::LetterM => is_m_code(word_at(forms, numbers, b'M')),
         Kind::LetterU | Kind::LetterV => !has(forms, numbers, b'N'),
         Kind::Unknown => false,
@@ -140,11 +160,17 @@ fn kind_fits(forms: &[u8; 26], numbers: &[i32; 26], kind: Kind) -> bool
 }
 
 // Whether a block of a kind has a listed set of letters, each in its place.
-pub fn is_listed(forms: &[u8; 26], numbers: &[i32; 26], summary: Summary, kind: Kind) -> bool
-    ensures { λ r. ⌜ r ≡ isCounted (lettersOf (now (forms .entry)) (now (numbers .entry))) summary kind ⌝ }
+pub fn is_listed(
+    given: Given,
+    forms: &[u8; 26],
+    numbers: &[i32; 26],
+    summary: Summary,
+    kind: Kind,
+) -> bool
+    ensures { λ r. ⌜ r ≡ isCounted given (lettersOf (now (forms .entry)) (now (numbers .entry))) summary kind ⌝ }
 {
     !summary.misplaced
-        & kind_fits(forms, numbers, kind)
+        & kind_fits(given, forms, numbers, kind)
         & beside_fits(summary, kind)
         & form_fits(forms, numbers, summary, kind)
 }

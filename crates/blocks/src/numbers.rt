@@ -98,7 +98,7 @@ fn ranges_fit(forms: &[u8; 26], numbers: &[i32; 26], kind: Kind) -> bool
             & whole(word_at(forms, numbers, b'K'), 1, PATTERN_MOST),
         Kind::G36 | Kind::G37 => whole(word_at(forms, numbers, b'P'), 0, PATTERN_MOST)
             & whole(word_at(forms, numbers, b'K'), 0, PATTERN_MOST),
-        Kind::G75 | Kind::G76 => whole(word_at(forms, numbers, b'W'), 1, LAST_MACRO)
+        Kind::G73 | Kind::G75 | Kind::G76 => whole(word_at(forms, numbers, b'W'), 1, LAST_MACRO)
             & whole(word_at(forms, numbers, b'Q'), 1, 4),
         Kind::G98 => layout_fits(forms, numbers),
         Kind::LetterB => whole(word_at(forms, numbers, b'B'), 1, LAST_MEMORY),

@@ -4,7 +4,7 @@ ghost use Prim.Native.Nat.{_≤_};
 ghost use lib.IntN.{natAbs};
 ghost use Rattle.sine.specs.Sine.{turn};
 ghost use Rattle.aries.specs.Numbers.{isRanged};
-ghost use Rattle.aries.specs.Blocks.{count, axes, steps, pointOfXY, layout, copies, linePattern, arcPattern, circlePattern, gridPattern, shearPattern, patternBlock, mBlock, blockOf};
+ghost use Rattle.aries.specs.Blocks.{count, axes, steps, pointOfXY, layout, copies, mirroring, linePattern, arcPattern, circlePattern, gridPattern, shearPattern, patternBlock, mBlock, blockOf};
 ghost use Rattle.aries.specs.Letters.{letterA, letterK, letterP, letterQ, letterT, letterW};
 ghost use Rattle.lengths.specs.Sized.{Sized};
 ghost use Rattle.blocks.specs.Decoding.{axisOf};
@@ -14,11 +14,13 @@ use crate::lookup::size_of;
 use aries::block::Axes;
 use aries::block::Axis;
 use aries::block::Block;
+use aries::block::Call;
 use aries::block::Copies;
 use aries::block::Direct;
 use aries::block::Kind;
 use aries::block::Layout;
 use aries::block::Measure;
+use aries::block::Mirroring;
 use aries::block::Outside;
 use aries::block::Pattern;
 use aries::block::Pitch;
@@ -118,6 +120,17 @@ fn copies_of(forms: &[u8; 26], numbers: &[i32; 26], vertical: bool) -> Copies
         part,
         corner,
     }
+}
+
+// G73: the part, the way it is mirrored, and X and Y as they are written.
+fn mirroring_of(forms: &[u8; 26], numbers: &[i32; 26]) -> Mirroring
+    requires { ⌜ (count (lettersOf (now forms) (now numbers)) letterW ≤ 255) × (count (lettersOf (now forms) (now numbers)) letterQ ≤ 255) ⌝ }
+    ensures { λ r. ⌜ r ≡ mirroring (lettersOf (now (forms .entry)) (now (numbers .entry))) ⌝ }
+{
+    let part = small(word_at(forms, numbers, b'W'));
+    let way = small(word_at(forms, numbers, b'Q'));
+    let axes = axes_of(forms, numbers);
+    Mirroring { part, way, axes }
 }
 
 // G28.
@@ -270,6 +283,7 @@ pub fn block_of(forms: &[u8; 26], numbers: &[i32; 26], kind: Kind) -> Block
             small(word_at(forms, numbers, b'T')),
         )),
         Kind::G72 => Block::Direct(Direct::PatternOrigin(axes_of(forms, numbers))),
+        Kind::G73 => Block::Call(Call::Mirrored(mirroring_of(forms, numbers))),
         Kind::G75 => Block::Outside(Outside::Copy(copies_of(forms, numbers, false))),
         Kind::G76 => Block::Outside(Outside::Copy(copies_of(forms, numbers, true))),
         Kind::G92 => Block::Outside(Outside::Machine(point_of(forms, numbers))),
@@ -284,7 +298,7 @@ pub fn block_of(forms: &[u8; 26], numbers: &[i32; 26], kind: Kind) -> Block
         Kind::LetterB => Block::Direct(Direct::Recall(small(word_at(forms, numbers, b'B')))),
         Kind::LetterU => Block::Outside(Outside::Open(small(word_at(forms, numbers, b'U')))),
         Kind::LetterV => Block::Outside(Outside::Close(small(word_at(forms, numbers, b'V')))),
-        Kind::LetterW => Block::Call(small(word_at(forms, numbers, b'W'))),
+        Kind::LetterW => Block::Call(Call::Plain(small(word_at(forms, numbers, b'W')))),
         Kind::Unknown => Block::Direct(Direct::Idle),
     }
 }

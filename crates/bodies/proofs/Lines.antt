@@ -15,7 +15,7 @@ use Rattle.aries.specs.declared.state.Progress.{Progress}
 use Rattle.aries.specs.Outcome.{Out, done, refused, _>>=_}
 use Rattle.aries.specs.Entries.{Made, adding, andThen}
 use Rattle.aries.specs.Judging.{Judging}
-use Rattle.aries.specs.Macros.{Calls, carryDirect, carry, Begun, begin, runBlock, runLine, runLines}
+use Rattle.aries.specs.Macros.{Calls, carryDirect, carryCall, carry, Begun, begin, runBlock, runLine, runLines}
 use Rattle.aries.specs.Text.{lines, lineFeed}
 use Rattle.aries.proofs.Outcomes.{adding-then}
 use Rattle.aries.proofs.Runs.{no-entry-then}
@@ -71,7 +71,7 @@ module _ (j : Judging) (c : Calls) (f : Frame) where
 
         blocks : (d : Block) (g : Progress) → andThen (carry j c f line d g) next ≡ all (onward (blockStep j f (at + length (b ∷ bs)) line d g) later)
         blocks (Block.Direct d) g = carried (carryDirect j f line d g)
-        blocks (Block.Call n) g = ap (andThen (c f n line g)) (fun-ext past) ∙ sym (no-entry-then g (rest j c f t (Sequel.Call n (at + length (b ∷ bs)) line)))
+        blocks (Block.Call x) g = ap (andThen (carryCall c f line x g)) (fun-ext past) ∙ sym (no-entry-then g (rest j c f t (Sequel.Call x (at + length (b ∷ bs)) line)))
         blocks (Block.Outside o) g = refl
 
         begins :

@@ -1,4 +1,9 @@
 // Bodies: the blocks of a body, and the calls among them.
+use crate::calling::begun_by;
+use crate::calling::frame_by;
+use crate::calling::outcome_by;
+use crate::calling::part_of;
+use aries::block::Call;
 use aries::macros::Found;
 use aries::macros::Macros;
 use aries::macros::find_in;
@@ -15,11 +20,14 @@ ghost use mathlib.Core.Path.{_≡_};
 ghost use mathlib.Core.Bool.{cond};
 ghost use lib.Dec.{ltb};
 ghost use lib.ListN.{drop};
-ghost use Rattle.aries.specs.Macros.{bodiesOf, call, runLines};
+ghost use Rattle.aries.specs.Macros.{bodiesOf, call, carryCall, runLines};
 ghost use Rattle.aries.specs.Runs.{lentBoth, Carried};
+ghost use Rattle.aries.specs.Steady.{CallNear, GivenNear, Steady};
 ghost use Rattle.aries.specs.Text.{lines};
 ghost use Rattle.stretches.specs.Stretches.{LinesFit};
 ghost use Rattle.bodies.specs.Rest.{rest, RestFits};
+
+mod calling; // a block that calls a macro: what its body begins with, and what is left
 
 // The most calls that are open at a time.
 pub const MOST_CALLS: u8 = 4;
@@ -54,11 +62,14 @@ pub fn run_blocks(
     progress: Progress,
 ) -> Outcome
     requires { ⌜ LinesFit (from .line) (from .at) (now body) ⌝ }
+    requires { ⌜ Steady depth frame ⌝ }
+    requires { ⌜ GivenNear (progress .state) ⌝ }
     ensures { λ r. ⌜ Carried r frame (lentBoth (now (list .entry)) (now (tally .entry))) (lentBoth (now (list .exit)) (now (tally .exit))) progress (λ j. runLines j (call j (bodiesOf (now (text .entry)) macros) depth) frame (from .line) (lines (drop (from .at) (now (body .entry))))) ⌝ }
 {
     let at = from.at;
     let line = from.line;
-    let start = look_ahead(frame, body, at, line);
+    let given = progress.state.given;
+    let start = look_ahead(frame.reader(given), body, at, line);
     let stretch = run_stretch(list, tally, body, at, line, start, frame, progress);
     let sequel = stretch.sequel;
     if sequel.is_end() {
@@ -91,6 +102,8 @@ pub fn run_rest(
     progress: Progress,
 ) -> Outcome
     requires { ⌜ RestFits (now body) from ⌝ }
+    requires { ⌜ Steady depth frame ⌝ }
+    requires { ⌜ GivenNear (progress .state) ⌝ }
     ensures { λ r. ⌜ Carried r frame (lentBoth (now (list .entry)) (now (tally .entry))) (lentBoth (now (list .exit)) (now (tally .exit))) progress (λ j. rest j (call j (bodiesOf (now (text .entry)) macros) depth) frame (now (body .entry)) from) ⌝ }
 {
     let mut now = progress;
@@ -103,13 +116,14 @@ pub fn run_rest(
             Sequel::Outside(_, _, place) => {
                 return Outcome::refused(refusal::OUT_OF_PLACE, place, now);
             }
-            Sequel::Call(number, end, place) => {
-                let outcome = run_body(depth, list, tally, text, number, place, macros, frame, now);
+            Sequel::Call(block, end, place) => {
+                let outcome = run_body(depth, list, tally, text, block, place, macros, frame, now);
                 let ended = outcome.status;
                 if let Status::Refused(_, _) = ended {
                     return outcome;
                 }
-                let next = look_ahead(frame, body, end, place);
+                let given = outcome.progress.state.given;
+                let next = look_ahead(frame.reader(given), body, end, place);
                 let stretch = run_stretch(
                     list,
                     tally,
@@ -132,21 +146,25 @@ pub fn run_rest(
     }
 }
 
-// The body runner: a call of a macro in a line, with so many calls left to open, this one among them. The body is a part of
-// the text; its first direct blocks are carried out here, and what follows them goes to the block runner with the store.
+// The body runner: a block that calls a macro in a line, with so many calls left to open, this one among them. The body is a part
+// of the text; its first direct blocks are carried out here, and what follows them goes to the block runner with the store.
 pub fn run_body(
     depth: u8,
     list: &mut [i32],
     tally: &mut [u64; FIGURES],
     text: &[u8],
-    number: u8,
+    block: Call,
     line: u64,
     macros: Macros,
     frame: Frame,
     progress: Progress,
 ) -> Outcome
-    ensures { λ r. ⌜ Carried r frame (lentBoth (now (list .entry)) (now (tally .entry))) (lentBoth (now (list .exit)) (now (tally .exit))) progress (λ j. call j (bodiesOf (now (text .entry)) macros) depth frame number line) ⌝ }
+    requires { ⌜ Steady depth frame ⌝ }
+    requires { ⌜ GivenNear (progress .state) ⌝ }
+    requires { ⌜ CallNear block ⌝ }
+    ensures { λ r. ⌜ Carried r frame (lentBoth (now (list .entry)) (now (tally .entry))) (lentBoth (now (list .exit)) (now (tally .exit))) progress (λ j. carryCall (call j (bodiesOf (now (text .entry)) macros) depth) frame line block) ⌝ }
 {
+    let number = part_of(block);
     let found = find_in(&macros.start, &macros.end, &macros.line, number);
     let Found::Body(begin, end, first) = found else {
         return Outcome::refused(refusal::NOT_STORED, line, progress);
@@ -158,13 +176,18 @@ pub fn run_body(
     let from = clip(begin, to);
     let body = &text[from..to];
     let number = first as u64;
-    let start = look_ahead(frame, body, 0, number);
-    let stretch = run_stretch(list, tally, body, 0, number, start, frame, progress);
+    let origin = frame.origin;
+    let begun = begun_by(block, origin, progress);
+    let spans = begun.state.spans;
+    let inner = frame_by(block, frame, spans);
+    let given = begun.state.given;
+    let start = look_ahead(inner.reader(given), body, 0, number);
+    let stretch = run_stretch(list, tally, body, 0, number, start, inner, begun);
     let sequel = stretch.sequel;
     if sequel.is_end() {
-        return stretch.outcome;
+        return outcome_by(block, origin, stretch.outcome);
     }
-    run_rest(
+    let outcome = run_rest(
         depth - 1,
         list,
         tally,
@@ -172,7 +195,8 @@ pub fn run_body(
         body,
         sequel,
         macros,
-        frame,
+        inner,
         stretch.outcome.progress,
-    )
+    );
+    outcome_by(block, origin, outcome)
 }

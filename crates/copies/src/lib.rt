@@ -4,7 +4,6 @@ use aries::block::Layout;
 use aries::macros::Found;
 use aries::macros::Macros;
 use aries::point::Located;
-use aries::point::Point;
 use aries::point::WidePoint;
 use aries::refusal;
 use aries::setup::Setup;
@@ -20,22 +19,18 @@ use stretches::look_ahead;
 use stretches::run_stretch;
 use tallies::FIGURES;
 ghost use mathlib.Core.Path.{_≡_};
-ghost use Rattle.aries.specs.Layouts.{copyStart, partOf, copy, copyPart};
+ghost use mathlib.Core.Bool.{true};
+ghost use Rattle.aries.specs.Judging.{near};
+ghost use Rattle.aries.specs.Layouts.{partOf, copy, copyPart};
 ghost use Rattle.aries.specs.Macros.{bodiesOf};
 ghost use Rattle.aries.specs.WidePoints.{pointOf};
 ghost use Rattle.aries.specs.Reader.{readerOf};
 ghost use Rattle.aries.specs.Runs.{Lent, lentBoth, Carried};
 ghost use Rattle.aries.specs.Setup.{ordinaryFrame};
+ghost use Rattle.aries.specs.Steady.{GivenNear, Steady};
 ghost use Rattle.stretches.specs.Lookahead.{ahead};
 ghost use Rattle.stretches.specs.Stretches.{LinesFit};
 ghost use Rattle.copies.specs.Copying.{blankPart, bodyOf, allCopies};
-
-// The state that a copy begins with: the one found, at the copy's own place, and no pattern origin waits.
-fn copy_start(found: State, place: Point) -> State
-    ensures { λ r. ⌜ r ≡ copyStart found place ⌝ }
-{
-    found.dropping().moved_to(place)
-}
 
 // Copies a part without a block: all places are judged, and the state is that of the last copy.
 fn copy_blank(
@@ -52,7 +47,7 @@ fn copy_blank(
         return Outcome::refused(refusal::TOO_FAR, line, progress);
     };
     let found = progress.state;
-    Outcome::passed(progress.with_state(copy_start(found, point)))
+    Outcome::passed(progress.with_state(found.standing_at(point)))
 }
 
 // One copy, after so many blocks and entries: its place is judged, and then the part is carried out there with the state found.
@@ -72,7 +67,8 @@ fn copy_at(
     blocks: u32,
     entries: usize,
 ) -> Outcome
-    requires { ⌜ (LinesFit first 0 (now body)) × (start ≡ ahead (readerOf frame) (now body) 0 first) ⌝ }
+    requires { ⌜ (LinesFit first 0 (now body)) × (start ≡ ahead (readerOf frame found) (now body) 0 first) ⌝ }
+    requires { ⌜ (Steady 3 frame) × (GivenNear found) ⌝ }
     ensures { λ r. ⌜ Carried r frame (lentBoth (now (list .entry)) (now (tally .entry))) (lentBoth (now (list .exit)) (now (tally .exit))) (record { state = found; blocks = blocks; entries = entries }) (λ j. copy j (partOf j (bodiesOf (now (text .entry)) macros) (bodyOf first (now (body .entry)))) frame line found (pointOf place)) ⌝ }
 {
     let located = place.located();
@@ -89,7 +85,7 @@ fn copy_at(
     };
     let here = frame.at(point);
     let begun = Progress {
-        state: copy_start(found, point),
+        state: found.standing_at(point),
         blocks,
         entries,
     };
@@ -127,7 +123,8 @@ fn copy_next(
     place: WidePoint,
     before: Progress,
 ) -> Outcome
-    requires { ⌜ (LinesFit first 0 (now body)) × (start ≡ ahead (readerOf frame) (now body) 0 first) ⌝ }
+    requires { ⌜ (LinesFit first 0 (now body)) × (start ≡ ahead (readerOf frame saved) (now body) 0 first) ⌝ }
+    requires { ⌜ (Steady 3 frame) × (GivenNear saved) ⌝ }
     ensures { λ r. ⌜ Carried r frame (lentBoth (now (list .entry)) (now (tally .entry))) (lentBoth (now (list .exit)) (now (tally .exit))) before (λ j. copy j (partOf j (bodiesOf (now (text .entry)) macros) (bodyOf first (now (body .entry)))) frame line saved (pointOf place)) ⌝ }
 {
     copy_at(
@@ -162,7 +159,8 @@ fn copy_body(
     copies: Copies,
     progress: Progress,
 ) -> Outcome
-    requires { ⌜ (LinesFit first 0 (now body)) × (start ≡ ahead (readerOf frame) (now body) 0 first) ⌝ }
+    requires { ⌜ (LinesFit first 0 (now body)) × (start ≡ ahead (readerOf frame (progress .state)) (now body) 0 first) ⌝ }
+    requires { ⌜ (Steady 3 frame) × (GivenNear (progress .state)) ⌝ }
     ensures { λ r. ⌜ Carried r frame (lentBoth (now (list .entry)) (now (tally .entry))) (lentBoth (now (list .exit)) (now (tally .exit))) progress (λ j. allCopies j (partOf j (bodiesOf (now (text .entry)) macros) (bodyOf first (now (body .entry)))) frame line layout copies) ⌝ }
 {
     let origin = frame.origin;
@@ -213,10 +211,12 @@ fn copy_over(
     copies: Copies,
     progress: Progress,
 ) -> Outcome
+    requires { ⌜ (Steady 3 frame) × (GivenNear (progress .state)) ⌝ }
     ensures { λ r. ⌜ Carried r frame (lentBoth (now (list .entry)) (now (tally .entry))) (lentBoth (now (list .exit)) (now (tally .exit))) progress (λ j. allCopies j (partOf j (bodiesOf (now (text .entry)) macros) (bodyOf first (now (body .entry)))) frame line layout copies) ⌝ }
 {
     let number = first as u64;
-    let start = look_ahead(frame, body, 0, number);
+    let given = progress.state.given;
+    let start = look_ahead(frame.reader(given), body, 0, number);
     if let Ahead::Nothing = start {
         return copy_blank(frame, line, layout, copies, progress);
     }
@@ -247,6 +247,7 @@ pub fn copy_part(
     copies: Copies,
     progress: Progress,
 ) -> Outcome
+    requires { ⌜ (near (setup .origin) ≡ true) × (GivenNear (progress .state)) ⌝ }
     ensures { λ r. ⌜ Carried r (ordinaryFrame setup) (lentBoth (now (list .entry)) (now (tally .entry))) (lentBoth (now (list .exit)) (now (tally .exit))) progress (λ j. copyPart j (bodiesOf (now (text .entry)) macros) setup line copies) ⌝ }
 {
     let found = macros.find(copies.part);

@@ -52,11 +52,11 @@ module _ (r : Reader) (formed : Bool) (end : ℕ) (ws : List LetterWord) (f : Al
   summary = summaryOf formed end ws
 
   abbrev judged : Judged
-  judged = judgedOf (r .setting) (w .letters) summary
+  judged = judgedOf r (w .letters) summary
 
   -- 5 and 6
   abbrev isKnown : Bool
-  isKnown = inPlaces ws && isListed w kind
+  isKnown = inPlaces ws && isListed (r .given) w kind
 
   abbrev isFit : Bool
   isFit = lengthsFit (r .setting) kind (w .letters) && isRanged hundredths kind
@@ -65,15 +65,15 @@ module _ (r : Reader) (formed : Bool) (end : ℕ) (ws : List LetterWord) (f : Al
   judged-words : judged ≡ cond isKnown (cond isFit (Judged.Of kind (w .measure)) (Judged.Refused 6)) (Judged.Refused 5)
   judged-words =
       let back = summary-words formed end ws in
-      ap (judgedAs (r .setting) (w .letters) summary) (ap kindOf back)
-      ∙ rw (is-counted formed end ws kind f, ap (λ (v : Words). v .measure) back)
+      ap (judgedAs r (w .letters) summary) (ap kindOf back)
+      ∙ rw (is-counted (r .given) formed end ws kind f, ap (λ (v : Words). v .measure) back)
 
-  left-words : lettersLeft (r .setting) (w .letters) summary ≡ cond isKnown hundredths (w .letters)
+  left-words : lettersLeft r (w .letters) summary ≡ cond isKnown hundredths (w .letters)
   left-words =
-      ap (lettersAs (r .setting) (w .letters) summary) (ap kindOf (summary-words formed end ws)) ∙ rw (is-counted formed end ws kind f)
+      ap (lettersAs r (w .letters) summary) (ap kindOf (summary-words formed end ws)) ∙ rw (is-counted (r .given) formed end ws kind f)
 
   -- it is the instruction of the words
-  judged-decodes : decodeWords r ws ≡ instructionBy (lettersLeft (r .setting) (w .letters) summary) judged
+  judged-decodes : decodeWords r ws ≡ instructionBy (lettersLeft r (w .letters) summary) judged
   unfolding decodeWords
   judged-decodes = rw (judged-words, left-words) (go isKnown isFit)
     where
@@ -88,7 +88,7 @@ module _ (r : Reader) (formed : Bool) (end : ℕ) (ws : List LetterWord) (f : Al
   -- a kind is one whose ranges hold, of words that are sized
   judged-ranged :
       Sized (w .letters) → (k : Kind) (m : Measure) → judged ≡ Judged.Of k m
-      → (let left = lettersLeft (r .setting) (w .letters) summary in Sized left × (isRanged left k ≡ true))
+      → (let left = lettersLeft r (w .letters) summary in Sized left × (isRanged left k ≡ true))
   judged-ranged sized k m e = rw left-words (go isKnown isFit refl (sym judged-words ∙ e))
     where
       go :
@@ -123,15 +123,15 @@ module _ (r : Reader) (line : List ℕ) (from : ℕ) (s : Summary) (forms : List
   told : s ≡ summary r (isSome (words line)) (from + sizeOf ws) ws formed-all
   told = g .told
 
-  module _ (w : Letters) (left : w ≡ lettersLeft (r .setting) (lettersOf forms numbers) s) where
-    pub line-decodes : s .formed ≡ true → decode r line ≡ instructionBy w (judgedOf (r .setting) (lettersOf forms numbers) s)
+  module _ (w : Letters) (left : w ≡ lettersLeft r (lettersOf forms numbers) s) where
+    pub line-decodes : s .formed ≡ true → decode r line ≡ instructionBy w (judgedOf r (lettersOf forms numbers) s)
     unfolding decode
     line-decodes t =
         ap (decoded r) (rw t at (gathers-words line from s forms numbers g))
         ∙ judged-decodes r (isSome (words line)) (from + sizeOf ws) ws formed-all
         ∙ rw (left, g .letters, told)
 
-    pub line-ranged : (k : Kind) (m : Measure) → judgedOf (r .setting) (lettersOf forms numbers) s ≡ Judged.Of k m → Sized w × (isRanged w k ≡ true)
+    pub line-ranged : (k : Kind) (m : Measure) → judgedOf r (lettersOf forms numbers) s ≡ Judged.Of k m → Sized w × (isRanged w k ≡ true)
     line-ranged k m e =
         rw (left, g .letters, told)
         (judged-ranged r (isSome (words line)) (from + sizeOf ws) ws formed-all (by-letter-sized ws formed-all) k m (rw (g .letters, told) at e))

@@ -18,8 +18,7 @@ pub fn decode(reader: Reader, text: &[u8], at: usize) -> Decoded
     if !summary.formed {
         return Decoded::Refused(refusal::WORD_FORM);
     }
-    let setting = reader.setting;
-    let judged = blocks::judge(setting, &forms, &mut numbers, summary);
+    let judged = blocks::judge(reader, &forms, &mut numbers, summary);
     match judged {
         Judged::Of(kind, measure) => {
             let block = block_of(&forms, &numbers, kind);

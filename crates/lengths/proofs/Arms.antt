@@ -8,7 +8,7 @@ use lib.ListN.{getD}
 use denote.Enum.Declared.{tagOf}
 use types.Run.{OneOf}
 use Rattle.aries.specs.declared.block.Kind.{Kind}
-use Rattle.aries.specs.declared.block.Kind.the-variants.{G26, G28, G29, G36, G37, G50, G70, G72, G75, G76, G92, G93, G98, Position, Lone, LetterM, LetterB, LetterU, LetterV, LetterW, Unknown, G66}
+use Rattle.aries.specs.declared.block.Kind.the-variants.{G26, G28, G29, G36, G37, G50, G70, G72, G75, G76, G92, G93, G98, Position, Lone, LetterM, LetterB, LetterU, LetterV, LetterW, Unknown, G66, G73}
 use Rattle.aries.proofs.block.Kind as Declared
 
 -- the place of a kind among all of them
@@ -22,7 +22,7 @@ places (k ∷ ks) = place k ∷ places ks
 -- all kinds, in the order of their declaration
 abbrev kinds : List Kind
 kinds =
-    G26 ∷ G28 ∷ G29 ∷ G36 ∷ G37 ∷ G50 ∷ G70 ∷ G72 ∷ G75 ∷ G76 ∷ G92 ∷ G93 ∷ G98 ∷ Position ∷ Lone ∷ LetterM ∷ LetterB ∷ LetterU ∷ LetterV ∷ LetterW ∷ Unknown ∷ G66 ∷ []
+    G26 ∷ G28 ∷ G29 ∷ G36 ∷ G37 ∷ G50 ∷ G70 ∷ G72 ∷ G75 ∷ G76 ∷ G92 ∷ G93 ∷ G98 ∷ Position ∷ Lone ∷ LetterM ∷ LetterB ∷ LetterU ∷ LetterV ∷ LetterW ∷ Unknown ∷ G66 ∷ G73 ∷ []
 
 -- a kind stands at its place
 at-place : (k : Kind) → getD kinds (place k) Unknown ≡ k
@@ -48,6 +48,7 @@ at-place LetterV = refl
 at-place LetterW = refl
 at-place Unknown = refl
 at-place G66 = refl
+at-place G73 = refl
 
 -- kinds at one place are the same
 same : (k l : Kind) → place k ≡ place l → k ≡ l

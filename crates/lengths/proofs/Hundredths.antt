@@ -11,7 +11,7 @@ use lib.ListN.{length, set}
 use lib.Seq.{set-getD, getD-set-other}
 use borrow.Author.Tests.{eqb-false, leb-true, le-leb, not-true}
 use Rattle.aries.specs.declared.block.Kind.{Kind}
-use Rattle.aries.specs.declared.block.Kind.the-variants.{G26, G28, G29, G36, G37, G50, G70, G72, G75, G76, G92, G93, G98, Position, Lone, LetterM, LetterB, LetterU, LetterV, LetterW, Unknown, G66}
+use Rattle.aries.specs.declared.block.Kind.the-variants.{G26, G28, G29, G36, G37, G50, G70, G72, G75, G76, G92, G93, G98, Position, Lone, LetterM, LetterB, LetterU, LetterV, LetterW, Unknown, G66, G73}
 use Rattle.aries.specs.declared.reader.Setting.{Setting}
 use Rattle.aries.specs.declared.reader.Setting.the-variants.{Hundredths, Millimetres}
 use Rattle.aries.specs.declared.word.Word.{Word}
@@ -125,6 +125,7 @@ kinds-apart G66 = refl
 kinds-apart G50 = refl
 kinds-apart G70 = refl
 kinds-apart G72 = refl
+kinds-apart G73 = refl
 kinds-apart G75 = refl
 kinds-apart G76 = refl
 kinds-apart G92 = refl

@@ -96,7 +96,7 @@ fn kind_to_hundredths(forms: &[u8; 26], numbers: &mut [i32; 26], kind: Kind) -> 
             ij & p
         }
         Kind::G66 => five_to_hundredths(forms, numbers, b'I', b'J', b'P', b'Q', b'D'),
-        Kind::G70 | Kind::G72 | Kind::G92 | Kind::G93 | Kind::Position => {
+        Kind::G70 | Kind::G72 | Kind::G73 | Kind::G92 | Kind::G93 | Kind::Position => {
             two_to_hundredths(forms, numbers, b'X', b'Y')
         }
         Kind::G98 => five_to_hundredths(forms, numbers, b'X', b'Y', b'I', b'J', b'D'),

@@ -26,6 +26,8 @@ come g tooling p entries =
             nibble = tooling .nibble;
             tool = tooling .tool;
             memories = g .state .memories;
+            spans = g .state .spans;
+            given = g .state .given;
           };
       blocks = g .blocks;
       entries = entries;

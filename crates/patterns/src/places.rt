@@ -9,7 +9,7 @@ ghost use Prim.Native.Nat.{_<_, _≤_};
 ghost use lib.IntN.{pos, _*ℤ_};
 ghost use Rattle.sine.specs.Series.{Tables};
 ghost use Rattle.lanes.specs.Cursors.{passed};
-ghost use Rattle.aries.specs.WidePoints.{pointOf};
+ghost use Rattle.aries.specs.WidePoints.{pointOf, Moderate};
 ghost use Rattle.aries.specs.Judging.{isNear};
 ghost use Rattle.aries.specs.Moves.{pointAt, _⊕_};
 ghost use Rattle.aries.specs.Patterns.{polar, turned, circleAngle, gridOffset};
@@ -21,6 +21,7 @@ const TWO_TURNS: u64 = 72_000;
 // The place at a distance from the start, in a direction.
 fn polar_place(start: Point, distance: i32, direction: Direction) -> WidePoint
     ensures { λ r. ⌜ pointOf r ≡ start ⊕ toward distance direction ⌝ }
+    ensures { λ r. ⌜ Moderate r ⌝ }
 {
     let x = start.x;
     let y = start.y;
@@ -36,6 +37,7 @@ fn polar_place(start: Point, distance: i32, direction: Direction) -> WidePoint
 pub fn line_place(start: Point, pitch: i32, direction: Direction, n: u16) -> WidePoint
     requires { ⌜ isNear (pos n *ℤ pitch) ≡ true ⌝ }
     ensures { λ r. ⌜ pointOf r ≡ start ⊕ toward (pos n *ℤ pitch) direction ⌝ }
+    ensures { λ r. ⌜ Moderate r ⌝ }
 {
     let distance = signed::narrow(signed::product(n, pitch));
     polar_place(start, distance, direction)
@@ -52,6 +54,7 @@ pub fn arc_place(
 ) -> WidePoint
     requires { ⌜ Tables (now degrees) (now sines) (now cosines) ⌝ }
     ensures { λ r. ⌜ pointOf r ≡ start ⊕ polar radius angle ⌝ }
+    ensures { λ r. ⌜ Moderate r ⌝ }
 {
     polar_place(
         start,
@@ -86,6 +89,7 @@ pub fn circle_angle(angle: i32, clockwise: bool, n: u16, k: u16) -> i64
 // The place so many columns and rows from the start.
 fn step_place(start: Point, pitch: Point, column: u16, row: u16) -> WidePoint
     ensures { λ r. ⌜ pointOf r ≡ start ⊕ pointAt (pos column *ℤ pitch .x) (pos row *ℤ pitch .y) ⌝ }
+    ensures { λ r. ⌜ Moderate r ⌝ }
 {
     let x = start.x;
     let y = start.y;
@@ -107,6 +111,7 @@ pub fn grid_place(
 ) -> WidePoint
     requires { ⌜ (cursor .rest ≤ laneEnd vertical steps) × (cursor .lane ≤ 65535) ⌝ }
     ensures { λ r. ⌜ pointOf r ≡ start ⊕ gridOffset vertical pitch steps (passed (laneEnd vertical steps) cursor) ⌝ }
+    ensures { λ r. ⌜ Moderate r ⌝ }
 {
     let lane = cursor.lane as u16;
     if vertical {

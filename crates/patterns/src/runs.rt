@@ -12,6 +12,7 @@ ghost use mathlib.Core.Path.{_≡_};
 ghost use Rattle.aries.specs.Patterns as Patterns;
 ghost use Rattle.aries.specs.Patterns.{runPattern, recall};
 ghost use Rattle.aries.specs.Runs.{lent, Carried};
+ghost use Rattle.aries.specs.Steady.{Steady};
 ghost use Rattle.patterns.specs.Series.{statusAt};
 
 // The status by a refusal's number, which is 0 for none.
@@ -33,6 +34,7 @@ fn carry_out(
     pattern: Pattern,
     progress: Progress,
 ) -> Outcome
+    requires { ⌜ Steady 0 frame ⌝ }
     ensures { λ r. ⌜ Carried r frame (lent (now (list .entry))) (lent (now (list .exit))) progress (λ j. Patterns.pattern j frame line pattern) ⌝ }
 {
     if !sizes::shear_is_fit(pattern) {
@@ -70,6 +72,7 @@ pub fn run_pattern(
     memory: u8,
     progress: Progress,
 ) -> Outcome
+    requires { ⌜ Steady 0 frame ⌝ }
     ensures { λ r. ⌜ Carried r frame (lent (now (list .entry))) (lent (now (list .exit))) progress (λ j. runPattern j frame line pattern tool memory) ⌝ }
 {
     let state = progress.state;
@@ -80,6 +83,7 @@ pub fn run_pattern(
 
 // A B block: what memory n holds is carried out, or refused where that is nothing.
 pub fn recall(list: &mut [i32], frame: Frame, line: u64, n: u8, progress: Progress) -> Outcome
+    requires { ⌜ Steady 0 frame ⌝ }
     ensures { λ r. ⌜ Carried r frame (lent (now (list .entry))) (lent (now (list .exit))) progress (λ j. recall j frame line n) ⌝ }
 {
     let state = progress.state;

@@ -18,7 +18,8 @@ ghost use Rattle.aries.specs.Judging.{isNear, limits};
 ghost use Rattle.aries.specs.Moves.{punch};
 ghost use Rattle.aries.specs.Patterns.{reachIsNear, shearIsFit};
 ghost use Rattle.aries.specs.Shear.{isFit};
-ghost use Rattle.aries.specs.WidePoints.{pointOf};
+ghost use Rattle.aries.specs.Steady.{Steady};
+ghost use Rattle.aries.specs.WidePoints.{pointOf, Moderate};
 ghost use Rattle.aries.specs.Runs.{lent};
 ghost use Rattle.patterns.specs.Series.{Comes, series};
 
@@ -29,6 +30,7 @@ pub struct Tooling {
 }
 
 // How far a series of hits has come: the number of the refusal that ended it, or 0, the last point and the count of entries.
+// With a refusal the point is none that anybody reads.
 pub struct Reached {
     pub number: u8,
     pub current: Point,
@@ -43,15 +45,16 @@ fn punch_next(
     place: WidePoint,
     from: Reached,
 ) -> Reached
+    requires { ⌜ Steady 0 frame ⌝ }
+    requires { ⌜ Moderate place ⌝ }
     ensures { λ r. ⌜ Comes r frame tooling (from .current) (from .entries) (lent (now (list .entry))) (lent (now (list .exit))) (λ line. punch (limits (frame .job)) frame line (pointOf place)) ⌝ }
 {
     let entries = from.entries;
-    let current = from.current;
     let judged = hits::hit(list, frame, place, tooling.tool, tooling.nibble, entries);
     match judged {
         Judged::Refused(number) => Reached {
             number,
-            current,
+            current: Point { x: 0, y: 0 },
             entries,
         },
         Judged::Made(point) => Reached {
@@ -74,6 +77,7 @@ fn punch_line(
     count: u16,
 ) -> Reached
     requires { ⌜ isNear (pos count *ℤ pitch) ≡ true ⌝ }
+    requires { ⌜ Steady 0 frame ⌝ }
     ensures { λ r. ⌜ Comes r frame tooling start entries (lent (now (list .entry))) (lent (now (list .exit))) (series frame (Line pitch angle count) start) ⌝ }
 {
     let direction = sine::direction_at(angle);
@@ -106,6 +110,7 @@ fn punch_arc(
     step: i32,
     count: u16,
 ) -> Reached
+    requires { ⌜ Steady 0 frame ⌝ }
     ensures { λ r. ⌜ Comes r frame tooling start entries (lent (now (list .entry))) (lent (now (list .exit))) (series frame (Arc radius angle step count) start) ⌝ }
 {
     let degrees = sine::degree_sines();
@@ -141,6 +146,7 @@ fn punch_circle(
     clockwise: bool,
     count: u16,
 ) -> Reached
+    requires { ⌜ Steady 0 frame ⌝ }
     ensures { λ r. ⌜ Comes r frame tooling start entries (lent (now (list .entry))) (lent (now (list .exit))) (series frame (Circle radius angle clockwise count) start) ⌝ }
 {
     let degrees = sine::degree_sines();
@@ -176,6 +182,7 @@ fn punch_grid(
     pitch: Point,
     steps: Steps,
 ) -> Reached
+    requires { ⌜ Steady 0 frame ⌝ }
     ensures { λ r. ⌜ Comes r frame tooling start entries (lent (now (list .entry))) (lent (now (list .exit))) (series frame (Grid vertical pitch steps) start) ⌝ }
 {
     let count = sizes::grid_hits(steps);
@@ -210,6 +217,7 @@ fn punch_shear(
     shear: Shear,
 ) -> Reached
     requires { ⌜ isFit shear ≡ true ⌝ }
+    requires { ⌜ Steady 0 frame ⌝ }
     ensures { λ r. ⌜ Comes r frame tooling start entries (lent (now (list .entry))) (lent (now (list .exit))) (series frame (pattern.Shear angle shear) start) ⌝ }
 {
     let cut = shears::places::prepare(angle, shear);
@@ -246,6 +254,7 @@ pub fn punch_series(
 ) -> Reached
     requires { ⌜ reachIsNear pattern ≡ true ⌝ }
     requires { ⌜ shearIsFit pattern ≡ true ⌝ }
+    requires { ⌜ Steady 0 frame ⌝ }
     ensures { λ r. ⌜ Comes r frame tooling start entries (lent (now (list .entry))) (lent (now (list .exit))) (series frame pattern start) ⌝ }
 {
     match pattern {

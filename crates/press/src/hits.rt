@@ -12,18 +12,19 @@ ghost use mathlib.Core.Path.{_≡_};
 ghost use mathlib.Core.Bool.{cond};
 ghost use Rattle.aries.specs.Judging.{near};
 ghost use Rattle.aries.specs.Moves.{punch};
-ghost use Rattle.aries.specs.WidePoints.{pointOf};
+ghost use Rattle.aries.specs.Steady.{Steady};
+ghost use Rattle.aries.specs.WidePoints.{pointOf, Moderate};
 ghost use Rattle.aries.specs.Runs.{lent, Carried};
 ghost use Rattle.press.specs.Hits.{judgedHit, listAfter};
 
-// What is judged of a hit: it is made at a point, or refused by a number.
+// What is judged of a hit: it is made, and this point becomes the current one, or it is refused by a number.
 pub enum Judged {
     Made(Point),
     Refused(u8),
 }
 
 // The refusal of a place that is out of the punching range: 15 where it is too far away, else 16.
-fn out_of_range(place: WidePoint) -> u8
+pub fn out_of_range(place: WidePoint) -> u8
     ensures { λ r. ⌜ r ≡ cond (near (pointOf place)) 16 15 ⌝ }
 {
     let located = place.located();
@@ -33,8 +34,9 @@ fn out_of_range(place: WidePoint) -> u8
     }
 }
 
-// Makes a hit with a tool in a mode, after so many entries, or refuses it. The range is judged first: it lies within the
-// limit of 15, so that 15 and 16 are told apart only where it is left.
+// Makes a hit with a tool in a mode, after so many entries, or refuses it. It is made, and judged by 15 and 16, where the
+// place is seen after all mirrors. The range is judged first: it lies within the limit of 15, so that 15 and 16 are told apart
+// only where it is left.
 pub fn hit(
     list: &mut [i32],
     frame: Frame,
@@ -43,33 +45,32 @@ pub fn hit(
     nibble: bool,
     entries: usize,
 ) -> Judged
-    ensures { λ r. ⌜ (r ≡ judgedHit frame (pointOf place) tool entries) × (lent (now (list .exit)) ≡ listAfter r (lent (now (list .entry))) entries tool nibble) ⌝ }
+    requires { ⌜ Steady 0 frame ⌝ }
+    requires { ⌜ Moderate place ⌝ }
+    ensures { λ r. ⌜ (r ≡ judgedHit frame (pointOf place) tool entries) × (lent (now (list .exit)) ≡ listAfter frame r (lent (now (list .entry))) entries tool nibble) ⌝ }
 {
     let job = frame.job;
     if tool == 0 {
         return Judged::Refused(refusal::NO_TOOL);
     }
-    if !frame.covers(place) {
-        return Judged::Refused(out_of_range(place));
+    let seen = frame.seen(place);
+    if !frame.covers(seen) {
+        return Judged::Refused(out_of_range(seen));
     }
-    let located = place.located();
-    match located {
-        Located::TooFar => Judged::Refused(refusal::TOO_FAR),
-        Located::At(point) => {
-            let made = Hit {
-                place: point,
-                tool,
-                nibble,
-            };
-            if !enter(list, job, Entry::Hit(made), entries) {
-                return Judged::Refused(refusal::LIST_FULL);
-            }
-            Judged::Made(point)
-        }
+    let point = place.narrow();
+    let spot = seen.narrow();
+    let made = Hit {
+        place: spot,
+        tool,
+        nibble,
+    };
+    if !enter(list, job, Entry::Hit(made), entries) {
+        return Judged::Refused(refusal::LIST_FULL);
     }
+    Judged::Made(point)
 }
 
-// Makes a hit with the state's tool and mode; the place becomes the current point.
+// Makes a hit with the state's tool and mode; the place, as it is before mirrors, becomes the current point.
 pub fn punch(
     list: &mut [i32],
     frame: Frame,
@@ -77,6 +78,8 @@ pub fn punch(
     place: WidePoint,
     progress: Progress,
 ) -> Outcome
+    requires { ⌜ Steady 0 frame ⌝ }
+    requires { ⌜ Moderate place ⌝ }
     ensures { λ r. ⌜ Carried r frame (lent (now (list .entry))) (lent (now (list .exit))) progress (λ j. punch j frame line (pointOf place)) ⌝ }
 {
     let state = progress.state;
@@ -84,8 +87,8 @@ pub fn punch(
     let judged = hit(list, frame, place, state.tool, state.nibble, entries);
     match judged {
         Judged::Refused(number) => Outcome::refused(number, line, progress),
-        Judged::Made(point) => Outcome::passed(Progress {
-            state: state.moved_to(point),
+        Judged::Made(current) => Outcome::passed(Progress {
+            state: state.moved_to(current),
             blocks: progress.blocks,
             entries: entries + 1,
         }),

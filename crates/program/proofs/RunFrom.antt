@@ -137,15 +137,15 @@ module _ (j : Judging) (t : List ℕ) where
     block-spent q = block-here (begin-spent j (ordinaryFrame s) line (lineAt t at) g (rw same-counted q))
 
     module _ (may : (not (countedAt t at) || room (j .blocks) (g .blocks)) ≡ true) where
-      pub block-refused : (number : ℕ) → decodedAt (readerOf (ordinaryFrame s)) t at ≡ Decoded.Refused number → linesFrom j t at line (program stage s m g) ≡ refused number line
-      block-refused number q = block-here (begin-refused j (ordinaryFrame s) line (lineAt t at) g (rw same-counted may) number (decoded-refused (readerOf (ordinaryFrame s)) t at number q))
+      pub block-refused : (number : ℕ) → decodedAt (readerOf (ordinaryFrame s) (g .state)) t at ≡ Decoded.Refused number → linesFrom j t at line (program stage s m g) ≡ refused number line
+      block-refused number q = block-here (begin-refused j (ordinaryFrame s) line (lineAt t at) g (rw same-counted may) number (decoded-refused (readerOf (ordinaryFrame s) (g .state)) t at number q))
 
       pub block-begun :
-          (i : Instruction) (end : ℕ) → decodedAt (readerOf (ordinaryFrame s)) t at ≡ Decoded.Instruction i end
+          (i : Instruction) (end : ℕ) → decodedAt (readerOf (ordinaryFrame s) (g .state)) t at ≡ Decoded.Instruction i end
           → linesFrom j t at line (program stage s m g)
           ≡ andThen (placed j t end line (i .block) (program stage s m (begun (countedAt t at) (i .measure) g))) (linesFrom j t end line)
       block-begun i end q =
-          let d = decoded-instruction (readerOf (ordinaryFrame s)) t at i end q in
+          let d = decoded-instruction (readerOf (ordinaryFrame s) (g .state)) t at i end q in
           block-here (begin-done j (ordinaryFrame s) line (lineAt t at) g (rw same-counted may) i (d .0)) ∙ rw (same-counted, d .1)
 
   -- ---- Between a U line and its V line

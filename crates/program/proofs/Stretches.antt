@@ -1,6 +1,6 @@
 -- The lines of a text stretch by stretch, while the program runs: what direct blocks one after another make, and then the
 -- block that they end at and the lines behind it.
-use mathlib.Core.Path.{_≡_, refl, sym, ap, fun-ext, _∙_}
+use mathlib.Core.Path.{_≡_, refl, sym, ap, fun-ext, subst, _∙_}
 use mathlib.Core.List.{List, [], _∷_, _++_, append-assoc}
 use Prim.Native.Nat.{ℕ, suc, _+_, _≤_}
 use native.Mathlib.Omega.{arith}
@@ -23,14 +23,16 @@ use Rattle.aries.specs.Macros.{carryDirect, carry, Begun, begin}
 use Rattle.aries.specs.Program.{carryOut, runBlockOutside, runLineOutside, runFrom}
 use Rattle.aries.specs.Runs.{Lent, entriesMade, entriesOfProgram, Ran}
 use Rattle.aries.specs.Setup.{ordinaryFrame}
+use Rattle.aries.proofs.Given.{left-near}
 use Rattle.aries.proofs.Runs.{ran-refused, ran-then, ran-map, no-entry-then, refused-out}
 use Rattle.stretches.specs.declared.Sequel.{Sequel}
 use Rattle.stretches.specs.declared.Sequel.the-variants as Sequel
 use Rattle.stretches.specs.Stretches.{Stretched, stepOf, blockStep, begunStep, lineStep, onward, stretch}
 use Rattle.stretches.proofs.Sequels.{Behind, first-line}
+use Rattle.stretches.proofs.Nearness.{SequelNear, stretch-near}
 use Rattle.turns.specs.declared.turn.Next.the-variants as Next
 use Rattle.turns.specs.declared.turn.Turn.{Turn}
-use Rattle.turns.specs.Turns.{program, at, placed, linesFrom, leftOf, Comes}
+use Rattle.turns.specs.Turns.{program, at, placed, linesFrom, leftOf, Comes, Near, NextNear}
 use Rattle.program.specs.Lines.{Beyond, Turns}
 use Rattle.program.proofs.RunFrom.{from-end}
 
@@ -121,7 +123,7 @@ module _ (t : List ℕ) (from line : ℕ) (s : Setup) (g : Progress) where
     pub stretch-refused :
         {r : Turn} {number place : ℕ} → status ≡ Refused number place → r ≡ record { stage = Running; setup = s; progress = left; next = Next.Refused number place }
         → Turns r t from line Running s g before after
-    stretch-refused {r} {number} {place} e is = rw is (record { leads = leads; job = refl; comes = tt })
+    stretch-refused {r} {number} {place} e is = rw is (record { leads = leads; job = refl; comes = tt; near = λ n. tt })
       where
         leads :
             (m : Macros) (status : Status) (end : Program) (last : Lent) → Ran entriesOfProgram (s .job) status end after last (left .entries) (refused number place)
@@ -130,12 +132,16 @@ module _ (t : List ℕ) (from line : ℕ) (s : Setup) (g : Progress) where
             let o : here .made ≡ refused number place = refused-out (here .made) (sym e ∙ ran .same-status) in
             rw (lines-stretched (limits (s .job)) t s m from line g, o, h .same-status) ran-refused
 
-    -- it passed
+    -- it passed: the letters given, and a call that comes after it
+    pub stretch-given : status ≡ Passed → Near s g → Near s left
+    stretch-given e n = (n .0, left-near (here .made) ran e (stretch-near (limits (s .job)) (ordinaryFrame s) (lines (drop from t)) from line g (n .1) .made))
+
+    -- whoever does the rest has done the whole
     pub stretch-passed :
         {r : Turn} {sequel : Sequel} → status ≡ Passed → sequel ≡ here .sequel
         → ((m : Macros) → leftOf (limits (s .job)) t (r .next) (at r m) ≡ following (limits (s .job)) t s m sequel (program Running s m left)) → r .progress .entries ≡ left .entries
-        → r .setup .job ≡ s .job → Comes (Beyond t from) (r .next) → Turns r t from line Running s g before after
-    stretch-passed {r} {sequel} e f same entries job comes = record { leads = leads; job = job; comes = comes }
+        → r .setup .job ≡ s .job → Comes (Beyond t from) (r .next) → (Near s g → NextNear (r .next) (r .setup) (r .progress)) → Turns r t from line Running s g before after
+    stretch-passed {r} {sequel} e f same entries job comes near = record { leads = leads; job = job; comes = comes; near = near }
       where
         leads :
             (m : Macros) (status : Status) (end : Program) (last : Lent) → Ran entriesOfProgram (s .job) status end after last (r .progress .entries) (leftOf (limits (s .job)) t (r .next) (at r m))
@@ -145,6 +151,9 @@ module _ (t : List ℕ) (from line : ℕ) (s : Setup) (g : Progress) where
             (ran-then (mapAfter (program Running s m) (here .made)) (following (limits (s .job)) t s m (here .sequel))
             (ran-map (program Running s m) (λ x. refl) (here .made) (rw e at ran))
             (rw (same m, entries, f) at h))
+
+  pub sequel-near : {sequel : Sequel} → sequel ≡ here .sequel → Near s g → SequelNear sequel
+  sequel-near e n = subst SequelNear (sym e) (stretch-near (limits (s .job)) (ordinaryFrame s) (lines (drop from t)) from line g (n .1) .sequel)
 
   -- what comes after it lies further on
   pub sequel-beyond : (end place : ℕ) → line ≤ from + 1 → Behind t from line end place → Beyond t from end place

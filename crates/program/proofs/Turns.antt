@@ -16,7 +16,8 @@ use Rattle.aries.specs.declared.setup.Program.{Program}
 use Rattle.turns.specs.declared.turn.Next.{Next}
 use Rattle.turns.specs.declared.turn.Next.the-variants.{Line, Run, Open, Refused}
 use Rattle.turns.specs.declared.turn.Turn.{Turn}
-use Rattle.turns.specs.Turns.{program, at, placed, linesFrom, leftOf, Comes, Settles}
+use Rattle.aries.specs.Steady.{GivenNear}
+use Rattle.turns.specs.Turns.{program, at, placed, linesFrom, leftOf, Comes, Settles, Near, NextNear}
 use Rattle.program.specs.Lines.{Beyond, Turns}
 
 -- where something comes, as a place further on
@@ -30,14 +31,15 @@ comes-beyond t from end line (Refused number l) b c = tt
 pub turns-same :
     (r : Turn) (t : List ℕ) (from line : ℕ) (stage : Stage) (s : Setup) (g : Progress)
     → ((m : Macros) → leftOf (limits (s .job)) t (r .next) (at r m) ≡ linesFrom (limits (s .job)) t from line (program stage s m g))
-    → r .progress .entries ≡ g .entries → r .setup .job ≡ s .job → Comes (Beyond t from) (r .next) → (l : Lent) → Turns r t from line stage s g l l
-turns-same r t from line stage s g same entries job comes l =
+    → r .progress .entries ≡ g .entries → r .setup .job ≡ s .job → Comes (Beyond t from) (r .next) → (Near s g → NextNear (r .next) (r .setup) (r .progress)) → (l : Lent) → Turns r t from line stage s g l l
+turns-same r t from line stage s g same entries job comes near l =
     record {
       leads = λ m status left last h.
           subst (λ (k : ℕ). Ran entriesOfProgram (s .job) status left l last k (linesFrom (limits (s .job)) t from line (program stage s m g))) entries
           (subst (λ (o : Out (Made Program)). Ran entriesOfProgram (s .job) status left l last (r .progress .entries) o) (same m) h);
       job = job;
       comes = comes;
+      near = near;
     }
 
 module _ {r : Turn} (t : List ℕ) (from line : ℕ) (stage : Stage) (s : Setup) (g : Progress) where
@@ -46,21 +48,23 @@ module _ {r : Turn} (t : List ℕ) (from line : ℕ) (stage : Stage) (s : Setup)
       {stage' : Stage} {e k : ℕ} → r ≡ record { stage = stage'; setup = s; progress = g; next = Line e k } → Beyond t from e k
       → ((m : Macros) → linesFrom (limits (s .job)) t e k (program stage' s m g) ≡ linesFrom (limits (s .job)) t from line (program stage s m g))
       → (l : Lent) → Turns r t from line stage s g l l
-  turns-line is b same l = rw is (turns-same _ t from line stage s g same refl refl b l)
+  turns-line is b same l = rw is (turns-same _ t from line stage s g same refl refl b (λ n. n) l)
 
   -- a refusal
   pub turns-refused :
       {number place : ℕ} → r ≡ record { stage = Running; setup = s; progress = g; next = Refused number place }
       → ((m : Macros) → linesFrom (limits (s .job)) t from line (program stage s m g) ≡ refused number place) → (l : Lent) → Turns r t from line stage s g l l
-  turns-refused is same l = rw is (turns-same _ t from line stage s g (λ m. sym (same m)) refl refl tt l)
+  turns-refused is same l = rw is (turns-same _ t from line stage s g (λ m. sym (same m)) refl refl tt (λ n. tt) l)
 
   -- a block that was settled, which found a progress of its own
   pub turns-settled :
       {g' : Progress} (end place : ℕ) (b : Block) → Settles r end place b stage s g' → g' .entries ≡ g .entries → Beyond t from end place
+      → (GivenNear (g .state) → GivenNear (g' .state))
       → ((m : Macros) → linesFrom (limits (s .job)) t from line (program stage s m g) ≡ andThen (placed (limits (s .job)) t end place b (program stage s m g')) (linesFrom (limits (s .job)) t end place))
       → (l : Lent) → Turns r t from line stage s g l l
-  turns-settled end place b settled h far same l =
-      turns-same r t from line stage s g (λ m. settled .same t m ∙ sym (same m)) (settled .entries ∙ h) (settled .job) (comes-beyond t from end place (r .next) far (settled .comes)) l
+  turns-settled end place b settled h far kept same l =
+      turns-same r t from line stage s g (λ m. settled .same t m ∙ sym (same m)) (settled .entries ∙ h) (settled .job) (comes-beyond t from end place (r .next) far (settled .comes))
+      (λ n. settled .near (n .0, kept (n .1))) l
 
 -- at a stage by another name
 pub turns-at :

@@ -17,7 +17,7 @@ use Rattle.aries.specs.declared.state.Status.{Status}
 use Rattle.aries.specs.declared.state.Status.the-variants.{Passed, Refused}
 use Rattle.aries.specs.Outcome.{Out}
 use Rattle.aries.specs.Entries.{Made, andThen}
-use Rattle.aries.specs.Judging.{limits}
+use Rattle.aries.specs.Judging.{limits, near}
 use Rattle.aries.specs.Macros.{noMacros}
 use Rattle.aries.specs.Moves.{freshProgress}
 use Rattle.aries.specs.Program.{freshProgram, runFrom}
@@ -28,7 +28,7 @@ use Rattle.aries.proofs.Runs.{ran-refused, ran-ended, Leads, leads-start, leads
 use Rattle.turns.specs.declared.turn.Next.{Next}
 use Rattle.turns.specs.declared.turn.Next.the-variants as Next
 use Rattle.turns.specs.declared.turn.Turn.{Turn}
-use Rattle.turns.specs.Turns.{program, at, carried, linesFrom, leftOf, Comes}
+use Rattle.turns.specs.Turns.{program, at, carried, linesFrom, leftOf, Comes, Near, NextNear}
 use Rattle.program.specs.Lines.{Beyond, Turns}
 use Rattle.program.proofs.RunFrom.{text-end}
 
@@ -45,10 +45,12 @@ module _ (job : Job) (l₀ : Lent) (t : List ℕ) where
     pub same-job : s .job ≡ job
     pub inside : at ≤ length t + 1
     pub numbered : line ≤ at + 1
+    pub near : Near s g
     pub leads : Left l (g .entries) (linesFrom (limits job) t at line (program stage s m g))
 
   pub underway-start : Underway l₀ Fresh (freshSetup job) noMacros freshProgress 0 1
-  underway-start = record { kept = refl; same-job = refl; inside = omega arith; numbered = omega arith; leads = leads-start refl }
+  unfolding near
+  underway-start = record { kept = refl; same-job = refl; inside = omega arith; numbered = omega arith; near = (refl, refl); leads = leads-start refl }
 
   -- the end of the text
   pub underway-end :
@@ -70,6 +72,10 @@ module _ (job : Job) (l₀ : Lent) (t : List ℕ) where
     pub comes-at : {n : Next} → r .next ≡ n → Comes (Beyond t from) n
     comes-at e = subst (Comes (Beyond t from)) e (turn .comes)
 
+    -- and finds what it needs
+    pub near-at : {n : Next} → r .next ≡ n → NextNear n (r .setup) (r .progress)
+    near-at e = subst (λ (n : Next). NextNear n (r .setup) (r .progress)) e (turn .near (u .near))
+
     -- it was refused
     pub turn-refused : {number place : ℕ} → r .next ≡ Next.Refused number place → (end : Program) → Ran entriesOfProgram job (Refused number place) end l₀ l' 0 whole
     turn-refused {number} {place} e end = left e (Refused number place) end l' ran-refused
@@ -78,7 +84,7 @@ module _ (job : Job) (l₀ : Lent) (t : List ℕ) where
     pub turn-line : {e k : ℕ} → r .next ≡ Next.Line e k → Underway l' (r .stage) (r .setup) m (r .progress) e k
     turn-line e =
         let b = comes-at e in
-        record { kept = same ∙ u .kept; same-job = turn .job ∙ u .same-job; inside = b .inside; numbered = b .numbered; leads = left e }
+        record { kept = same ∙ u .kept; same-job = turn .job ∙ u .same-job; inside = b .inside; numbered = b .numbered; near = near-at e; leads = left e }
 
     -- a block that needs the stored bodies
     module _
@@ -93,12 +99,13 @@ module _ (job : Job) (l₀ : Lent) (t : List ℕ) where
       pub block-refused : {number line : ℕ} → status ≡ Refused number line → (last : Program) → Ran entriesOfProgram job (Refused number line) last l₀ l'' 0 whole
       block-refused {number} {line} e last = leads-as is (left next) (Refused number line) last l'' (ran-ended (linesFrom (limits job) t end place) (ran-here e))
 
-      pub block-passed : status ≡ Passed → length (l'' .list) ≡ length (l' .list) → p .setup ≡ r .setup → Underway l'' (p .stage) (p .setup) (p .macros) (p .progress) end place
-      block-passed e k same-setup =
+      pub block-passed : status ≡ Passed → length (l'' .list) ≡ length (l' .list) → p .setup ≡ r .setup → Near (p .setup) (p .progress) → Underway l'' (p .stage) (p .setup) (p .macros) (p .progress) end place
+      block-passed e k same-setup near =
           record {
             kept = k ∙ same ∙ u .kept;
             same-job = ap (λ (x : Setup). x .job) same-setup ∙ turn .job ∙ u .same-job;
             inside = far .inside;
             numbered = far .numbered;
+            near = near;
             leads = leads-on (carried (limits job) t end place b (at r m)) (linesFrom (limits job) t end place) (ran-here e) (leads-as is (left next));
           }

@@ -14,7 +14,7 @@ use Rattle.aries.specs.Judging.{limits}
 use Rattle.aries.specs.Runs.{Lent, entriesOfProgram, Ran}
 use Rattle.turns.specs.declared.turn.Called.{Called}
 use Rattle.turns.specs.declared.turn.Turn.{Turn}
-use Rattle.turns.specs.Turns.{program, at, carried, linesFrom, blockOf, leftOf, Comes}
+use Rattle.turns.specs.Turns.{program, at, carried, linesFrom, blockOf, leftOf, Comes, Near, NextNear}
 
 -- ---- Where they lie
 
@@ -40,6 +40,7 @@ pub record Turns (r : Turn) (t : List ℕ) (from line : ℕ) (stage : Stage) (s 
       → Ran entriesOfProgram (s .job) status left before last (g .entries) (linesFrom (limits (s .job)) t from line (program stage s m g))
   pub job : r .setup .job ≡ s .job
   pub comes : Comes (Beyond t from) (r .next)
+  pub near : Near s g → NextNear (r .next) (r .setup) (r .progress)
 
 -- A block that runs stored bodies, at whatever stage it is in its place.
 abbrev pub Runs : Outcome → List ℕ → Called → ℕ → Setup → Macros → Progress → Lent → Lent → Type 0

@@ -18,13 +18,16 @@ use turns::outside;
 use turns::turn::Called;
 use turns::turn::Next;
 use turns::turn::Turn;
+ghost use mathlib.Core.Path.{_≡_};
 ghost use Prim.Native.Nat.{_≤_, _<_, _+_};
 ghost use lib.ListN.{length};
 ghost use Rattle.aries.specs.declared.setup.Stage.the-variants.{Running, Storing};
+ghost use Rattle.aries.specs.declared.state.Status.the-variants.{Passed};
 ghost use Rattle.aries.specs.Program.{freshProgram, runFrom};
 ghost use Rattle.aries.specs.Runs.{Lent, lentBoth, Advanced};
 ghost use Rattle.aries.specs.Text.{lines};
-ghost use Rattle.turns.specs.Turns.{Alone};
+ghost use Rattle.aries.specs.Steady.{GivenNear};
+ghost use Rattle.turns.specs.Turns.{Alone, CalledNear, Near};
 ghost use Rattle.program.specs.Lines.{InText, Turns, Runs};
 
 const LETTER_V: u8 = b'V';
@@ -57,7 +60,8 @@ fn run_alone(
         return Turn::running(setup, progress, Next::Refused(refusal::BLOCKS_SPENT, place));
     }
     let frame = setup.frame();
-    let decoded = decode::decode(frame.reader(), text, start);
+    let given = progress.state.given;
+    let decoded = decode::decode(frame.reader(given), text, start);
     match decoded {
         Decoded::Refused(number) => Turn::running(setup, progress, Next::Refused(number, place)),
         Decoded::Instruction(instruction, end) => {
@@ -97,10 +101,12 @@ fn run_on(
     progress: Progress,
 ) -> Turn
     requires { ⌜ InText (now text) at line ⌝ }
+    requires { ⌜ Near setup progress ⌝ }
     ensures { λ r. ⌜ Turns r (now (text .entry)) at line Running setup progress (lentBoth (now (list .entry)) (now (tally .entry))) (lentBoth (now (list .exit)) (now (tally .exit))) ⌝ }
 {
     let frame = setup.frame();
-    let start = look_ahead(frame, text, at, line);
+    let given = progress.state.given;
+    let start = look_ahead(frame.reader(given), text, at, line);
     let stretch = run_stretch(list, tally, text, at, line, start, frame, progress);
     let outcome = stretch.outcome;
     let left = outcome.progress;
@@ -111,8 +117,8 @@ fn run_on(
     let sequel = stretch.sequel;
     match sequel {
         Sequel::End => Turn::running(setup, left, Next::Line(text.len(), line)),
-        Sequel::Call(number, end, place) => {
-            Turn::running(setup, left, Next::Run(Called::Macro(number), end, place))
+        Sequel::Call(block, end, place) => {
+            Turn::running(setup, left, Next::Run(Called::Macro(block), end, place))
         }
         Sequel::Outside(outside, end, place) => outside::settle(end, place, outside, setup, left),
     }
@@ -130,6 +136,7 @@ fn run_turn(
     progress: Progress,
 ) -> Turn
     requires { ⌜ InText (now text) at line ⌝ }
+    requires { ⌜ Near setup progress ⌝ }
     ensures { λ r. ⌜ Turns r (now (text .entry)) at line stage setup progress (lentBoth (now (list .entry)) (now (tally .entry))) (lentBoth (now (list .exit)) (now (tally .exit))) ⌝ }
 {
     match stage {
@@ -151,16 +158,19 @@ fn run_called(
     macros: Macros,
     progress: Progress,
 ) -> Outcome
+    requires { ⌜ Near setup progress ⌝ }
+    requires { ⌜ CalledNear called ⌝ }
     ensures { λ r. ⌜ Runs r (now (text .entry)) called line setup macros progress (lentBoth (now (list .entry)) (now (tally .entry))) (lentBoth (now (list .exit)) (now (tally .exit))) ⌝ }
+    ensures { λ r. ⌜ (r .status ≡ Passed → GivenNear (r .progress .state)) ⌝ }
 {
     match called {
-        Called::Macro(number) => {
+        Called::Macro(block) => {
             bodies::run_body(
                 bodies::MOST_CALLS,
                 list,
                 tally,
                 text,
-                number,
+                block,
                 line,
                 macros,
                 setup.frame(),

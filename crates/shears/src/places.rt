@@ -10,7 +10,7 @@ ghost use mathlib.Core.Bool.{true, cond};
 ghost use lib.Dec.{eqb};
 ghost use Prim.Native.Nat.{_≤_};
 ghost use lib.IntN.{pos, natAbs, _+ℤ_, _*ℤ_};
-ghost use Rattle.aries.specs.WidePoints.{pointOf};
+ghost use Rattle.aries.specs.WidePoints.{pointOf, Moderate};
 ghost use Rattle.aries.specs.Moves.{_⊕_};
 ghost use Rattle.aries.specs.Shear.{isFit};
 ghost use Rattle.shears.specs.Fractions.{split};
@@ -79,18 +79,11 @@ fn along(cut: Cut, k: u32) -> Fraction
     fractions::split(ahead - (cut.behind as i64), denominator)
 }
 
-// A coordinate with its offset.
-fn moved(start: i32, offset: i64) -> i64
-    requires { ⌜ natAbs offset ≤ 9000000000 ⌝ }
-    ensures { λ r. ⌜ r ≡ start +ℤ offset ⌝ }
-{
-    (start as i64) + offset
-}
-
 // The place of hit k: its way along the line, and to the left of it.
 pub fn place(start: Point, cut: Cut, k: u32) -> WidePoint
     requires { ⌜ Bounded cut k ⌝ }
     ensures { λ r. ⌜ pointOf r ≡ start ⊕ cutOffset cut k ⌝ }
+    ensures { λ r. ⌜ Moderate r ⌝ }
 {
     let x = start.x;
     let y = start.y;
@@ -104,7 +97,7 @@ pub fn place(start: Point, cut: Cut, k: u32) -> WidePoint
     let offset_x = fractions::offset(along, cosine, across, opposite, denominator);
     let offset_y = fractions::offset(along, sine, across, cosine, denominator);
     WidePoint {
-        x: moved(x, offset_x),
-        y: moved(y, offset_y),
+        x: signed::moved(x, offset_x),
+        y: signed::moved(y, offset_y),
     }
 }

@@ -22,6 +22,7 @@ use lib.IntN.{
   +ℤ-idl,
   +ℤ-idr,
   +ℤ-comm,
+  +ℤ-invl,
   +ℤ-invr,
   +ℤ-sucℤ,
   +ℤ-predℤ,
@@ -101,6 +102,39 @@ pub minus-sum : (a b c : ℤ) → a -ℤ (a +ℤ b -ℤ c) ≡ c -ℤ b
 minus-sum a b c =
     ap (λ (z : ℤ). a +ℤ z) (negℤ-+ℤ (a +ℤ b) (negℤ c) ∙ ap₂ _+ℤ_ (negℤ-+ℤ a b) (negℤ-negℤ c) ∙ +ℤ-assoc (negℤ a) (negℤ b) c)
     ∙ sym (+ℤ-assoc a (negℤ a) (negℤ b +ℤ c)) ∙ ap (λ (z : ℤ). z +ℤ (negℤ b +ℤ c)) (+ℤ-invr a) ∙ +ℤ-idl (negℤ b +ℤ c) ∙ +ℤ-comm (negℤ b) c
+
+-- ---- differences
+
+-- what is added and taken off again
+pub plus-minus : (a b : ℤ) → (a +ℤ b) -ℤ b ≡ a
+plus-minus a b = +ℤ-assoc a b (negℤ b) ∙ ap (λ (z : ℤ). a +ℤ z) (+ℤ-invr b) ∙ +ℤ-idr a
+
+-- or taken off and added again
+pub minus-plus : (a b : ℤ) → (a -ℤ b) +ℤ b ≡ a
+minus-plus a b = +ℤ-assoc a (negℤ b) b ∙ ap (λ (z : ℤ). a +ℤ z) (+ℤ-invl b) ∙ +ℤ-idr a
+
+-- the first summand taken off
+pub sum-minus : (a b : ℤ) → (a +ℤ b) -ℤ a ≡ b
+sum-minus a b = ap (λ (z : ℤ). z -ℤ a) (+ℤ-comm a b) ∙ plus-minus b a
+
+-- a number and how far another lies from it
+pub plus-difference : (a b : ℤ) → a +ℤ (b -ℤ a) ≡ b
+plus-difference a b = +ℤ-comm a (b -ℤ a) ∙ minus-plus b a
+
+-- a difference taken off
+pub minus-difference : (a b c : ℤ) → a -ℤ (b -ℤ c) ≡ (a -ℤ b) +ℤ c
+minus-difference a b c =
+    ap (λ (z : ℤ). a +ℤ z) (negℤ-+ℤ b (negℤ c) ∙ ap (λ (z : ℤ). negℤ b +ℤ z) (negℤ-negℤ c)) ∙ sym (+ℤ-assoc a (negℤ b) c)
+
+-- from the number itself
+pub minus-minus : (a b : ℤ) → a -ℤ (a -ℤ b) ≡ b
+minus-minus a b = minus-difference a a b ∙ ap (λ (z : ℤ). z +ℤ b) (+ℤ-invr a) ∙ +ℤ-idl b
+
+-- both moved by as much
+pub difference-moved : (a b d : ℤ) → (a +ℤ d) -ℤ (b +ℤ d) ≡ a -ℤ b
+difference-moved a b d =
+    ap (λ (z : ℤ). (a +ℤ d) +ℤ z) (negℤ-+ℤ b d) ∙ add-pairs a d (negℤ b) (negℤ d)
+    ∙ ap (λ (z : ℤ). (a -ℤ b) +ℤ z) (+ℤ-invr d) ∙ +ℤ-idr (a -ℤ b)
 
 -- ---- sizes
 
@@ -209,6 +243,15 @@ widened a f = simp (toZ-ofZ f, toZ-ofZ (wide a f))
 pub sum-fits : (a b : ℤ) → SFits w32 a → SFits w32 b → SFits w64 (a +ℤ b)
 sum-fits a b f g =
     fits-abs w64 (a +ℤ b) 4294967296 (abs-add a b 2147483648 2147483648 (abs-word a f) (abs-word b g)) (lit< tt)
+
+-- a difference is no larger than the bounds of both together
+pub abs-sub : (a b : ℤ) (m n : ℕ) → natAbs a ≤ m → natAbs b ≤ n → natAbs (a -ℤ b) ≤ m + n
+abs-sub a b m n h k = abs-add a (negℤ b) m n h (rw (abs-neg b) k)
+
+-- and differences
+pub difference-fits : (a b : ℤ) → SFits w32 a → SFits w32 b → SFits w64 (a -ℤ b)
+difference-fits a b f g =
+    fits-abs w64 (a -ℤ b) 4294967296 (abs-sub a b 2147483648 2147483648 (abs-word a f) (abs-word b g)) (lit< tt)
 
 -- and products
 pub product-fits : (a b : ℤ) → SFits w32 a → SFits w32 b → SFits w64 (a *ℤ b)

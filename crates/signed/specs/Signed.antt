@@ -12,6 +12,10 @@ eqZ (pos a) (negsuc b) = false
 eqZ (negsuc a) (pos b) = false
 eqZ (negsuc a) (negsuc b) = eqb a b
 
+-- the largest size of a place as it is computed: far beyond every place of a text, and far within 64 bits
+abbrev pub wideLimit : ℕ
+wideLimit = 1000000000000000
+
 -- minus n where the test holds, else n
 abbrev pub withSign : Bool → ℕ → ℤ
 withSign true n = negℤ (pos n)

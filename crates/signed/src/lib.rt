@@ -4,9 +4,9 @@ ghost use mathlib.Core.Path.{_≡_};
 ghost use mathlib.Core.Bool.{_&&_};
 ghost use Prim.Native.Nat.{_*_, _≤_};
 ghost use lib.Dec.{leb};
-ghost use lib.IntN.{pos, natAbs, _+ℤ_, _*ℤ_};
+ghost use lib.IntN.{pos, natAbs, _+ℤ_, _-ℤ_, _*ℤ_};
 ghost use lib.Signed.{leZ, ltZ};
-ghost use Rattle.signed.specs.Signed.{eqZ, withSign};
+ghost use Rattle.signed.specs.Signed.{eqZ, wideLimit, withSign};
 
 // The same number, wider.
 pub fn widen(a: i32) -> i64
@@ -37,6 +37,29 @@ pub fn sum(a: i32, b: i32) -> i64
     (a as i64) + (b as i64)
 }
 
+// The difference of two positions.
+pub fn difference(a: i32, b: i32) -> i64
+    ensures { λ r. ⌜ r ≡ a -ℤ b ⌝ }
+{
+    (a as i64) - (b as i64)
+}
+
+// A position with its offset.
+pub fn moved(a: i32, offset: i64) -> i64
+    requires { ⌜ natAbs offset ≤ wideLimit ⌝ }
+    ensures { λ r. ⌜ r ≡ a +ℤ offset ⌝ }
+{
+    (a as i64) + offset
+}
+
+// c turned round, measured from a: as far short of b as it lies past a.
+pub fn reflected(a: i32, b: i32, c: i64) -> i64
+    requires { ⌜ natAbs c ≤ wideLimit ⌝ }
+    ensures { λ r. ⌜ r ≡ a +ℤ (b -ℤ (c -ℤ a)) ⌝ }
+{
+    (a as i64) + ((b as i64) - (c - (a as i64)))
+}
+
 // The n-fold of a.
 pub fn product(n: u16, a: i32) -> i64
     ensures { λ r. ⌜ r ≡ pos n *ℤ a ⌝ }
@@ -47,6 +70,7 @@ pub fn product(n: u16, a: i32) -> i64
 // What n steps of b reach from a: an angle, a place of a grid.
 pub fn affine(a: i32, n: u16, b: i32) -> i64
     ensures { λ r. ⌜ r ≡ a +ℤ (pos n *ℤ b) ⌝ }
+    ensures { λ r. ⌜ natAbs r ≤ wideLimit ⌝ }
 {
     (a as i64) + (n as i64) * (b as i64)
 }

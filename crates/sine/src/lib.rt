@@ -2,6 +2,7 @@
 ghost use mathlib.Core.Path.{_≡_};
 ghost use Prim.Native.Nat.{_≤_, _<_};
 ghost use lib.IntN.{pos, natAbs, _+ℤ_, _-ℤ_};
+ghost use Rattle.signed.specs.Signed.{wideLimit};
 ghost use Rattle.sine.specs.Series.{
   nearest,
   one,
@@ -176,6 +177,7 @@ pub fn direction_at(angle: i32) -> Direction
 // Where a distance leads from a start along an axis, by the sine (or cosine) of its angle to it.
 pub fn displaced(start: i32, distance: i32, sine: i32) -> i64
     ensures { λ r. ⌜ r ≡ start +ℤ offset distance sine ⌝ }
+    ensures { λ r. ⌜ natAbs r ≤ wideLimit ⌝ }
 {
     (start as i64) + rounded((distance as i64) * (sine as i64))
 }

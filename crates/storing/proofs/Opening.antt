@@ -37,12 +37,12 @@ module _ (j : Judging) (text : List ℕ) (m : Macros) (n : ℕ) (b : Body) (s : 
 
 module _ (j : Judging) (text : List ℕ) (n start line : ℕ) (ls : List (List ℕ)) (s : Setup) (st : Store) where
   -- no V line
-  pub open-unclosed : bodySize (readerOf (ordinaryFrame s)) n ls ≡ none → openBody j text n start line ls s st ≡ refused 9 line
+  pub open-unclosed : bodySize (readerOf (ordinaryFrame s) (st .progress .state)) n ls ≡ none → openBody j text n start line ls s st ≡ refused 9 line
   unfolding openBody
   open-unclosed e = simp e
 
   -- the bodies with the new one
-  module _ (kept : Macros) (size : ℕ) (found : bodySize (readerOf (ordinaryFrame s)) n ls ≡ some size) (with-new : kept ≡ storing (st .macros) n start (start + size) (line + 1)) where
+  module _ (kept : Macros) (size : ℕ) (found : bodySize (readerOf (ordinaryFrame s) (st .progress .state)) n ls ≡ some size) (with-new : kept ≡ storing (st .macros) n start (start + size) (line + 1)) where
     -- what is left to do, with the bodies to be kept
     abbrev keep : Macros → Out (Made Store)
     keep k = do

@@ -13,11 +13,15 @@ use aries::state::Status;
 use bodies::Opening;
 use tallies::FIGURES;
 ghost use mathlib.Core.Path.{_≡_};
+ghost use mathlib.Core.Bool.{true};
 ghost use Prim.Native.Nat.{_≤_, _<_};
 ghost use lib.ListN.{length, drop};
+ghost use Rattle.aries.specs.declared.state.Status.the-variants.{Passed};
 ghost use Rattle.aries.specs.Bodies.{isOwnClose, bodySize, runsFirst, firstRun, withStored, openBody};
 ghost use Rattle.aries.specs.Runs.{lentBoth, Carried};
 ghost use Rattle.aries.specs.Setup.{ordinaryFrame};
+ghost use Rattle.aries.specs.Steady.{GivenNear};
+ghost use Rattle.aries.specs.Judging.{near};
 ghost use Rattle.aries.specs.Text.{lines};
 ghost use Rattle.text.specs.Lines.{lineAt};
 ghost use Rattle.storing.specs.Sizes.{marks, Sized};
@@ -102,6 +106,7 @@ fn first_run(
     macros: Macros,
     progress: Progress,
 ) -> Outcome
+    requires { ⌜ (near (setup .origin) ≡ true) × (GivenNear (progress .state)) ⌝ }
     ensures { λ r. ⌜ Carried r (ordinaryFrame setup) (lentBoth (now (list .entry)) (now (tally .entry))) (lentBoth (now (list .exit)) (now (tally .exit))) progress (λ j. firstRun j (now (text .entry)) macros number (record { line = first; bytes = now (body .entry) }) setup) ⌝ }
 {
     let sheet = setup.sheet;
@@ -145,10 +150,13 @@ pub fn open_body(
     progress: Progress,
 ) -> Opened
     requires { ⌜ (length (now text) ≤ 60000) × (line < 65535) ⌝ }
+    requires { ⌜ (near (setup .origin) ≡ true) × (GivenNear (progress .state)) ⌝ }
     ensures { λ r. ⌜ Opens r (setup .job) (lentBoth (now (list .entry)) (now (tally .entry))) (lentBoth (now (list .exit)) (now (tally .exit))) (withStored stored progress) (λ j. openBody j (now (text .entry)) number start line (lines (drop start (now (text .entry)))) setup) ⌝ }
+    ensures { λ r. ⌜ (r .status ≡ Passed → GivenNear (r .progress .state)) ⌝ }
 {
     let frame = setup.frame();
-    let found = body_size(frame.reader(), number, text, start);
+    let given = progress.state.given;
+    let found = body_size(frame.reader(given), number, text, start);
     let Size::Bytes(size) = found else {
         return Opened {
             status: Status::Refused(refusal::NOT_CLOSED, line),

@@ -15,6 +15,7 @@ use Rattle.aries.specs.Outcome.{Out, done, _>>=_, need}
 use Rattle.aries.specs.Entries.{Made, hitsIn}
 use Rattle.aries.specs.Judging.{Judging, judged, near, room}
 use Rattle.aries.specs.Machine.{inRange}
+use Rattle.aries.specs.Mirrors.{seen}
 use Rattle.aries.specs.Macros.{carryDirect}
 use Rattle.aries.specs.Moves.{target, move, setPatternOrigin}
 use Rattle.aries.specs.Runs.{lent, lentBoth, Ran, entriesMade}
@@ -48,8 +49,8 @@ module _ (j : Judging) (f : Frame) (line : ℕ) (g : Progress) where
   counting (Punch a tool) = (_, one-position j f line a tool g)
   counting Lone = hitless-done refl
   counting (Move a tool) =
-      hitless-need (judged (j .bounds) (near (target f (g .state) a))) 15 line
-      (hitless-need (judged (j .bounds) (inRange f (target f (g .state) a))) 16 line (hitless-done refl))
+      hitless-need (judged (j .bounds) (near (seen f (target f (g .state) a)))) 15 line
+      (hitless-need (judged (j .bounds) (inRange f (seen f (target f (g .state) a)))) 16 line (hitless-done refl))
   counting (PatternOrigin a) = hitless-need (judged (j .bounds) (near (target f (g .state) a))) 15 line (hitless-done refl)
   counting (Nibble on) = hitless-done refl
   counting Idle = hitless-done refl

@@ -4,3 +4,4 @@ pub mod Counted
 pub mod Stretches
 pub mod Turns
 pub mod Sequels
+pub mod Nearness

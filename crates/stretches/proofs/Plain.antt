@@ -1,4 +1,4 @@
--- Plain blocks: which they are, by the arms of a match, and that they keep the pattern memories.
+-- Plain blocks: which they are, by the arms of a match, and that they keep the pattern memories and the letters given.
 use mathlib.Core.Path.{_≡_, refl, sym, ap, _∙_}
 use mathlib.Core.Bool.{Bool, true, false, true≢false}
 use mathlib.Core.List.{List, [], _∷_}
@@ -16,13 +16,14 @@ use Rattle.aries.specs.declared.block.Direct.{Direct}
 use Rattle.aries.specs.declared.block.Direct.the-variants.{Lone, Punch, Move, PatternOrigin, RunPattern, Recall, Nibble, Idle, Stop}
 use Rattle.aries.specs.declared.job.Job.{Job}
 use Rattle.aries.specs.declared.state.Frame.{Frame}
-use Rattle.aries.specs.declared.state.Memory.{Memory}
+use Rattle.aries.specs.declared.state.State.{State}
 use Rattle.aries.specs.declared.state.Progress.{Progress}
 use Rattle.aries.specs.declared.state.Status.{Status}
 use Rattle.aries.specs.Outcome.{Out, done, _>>=_, need}
 use Rattle.aries.specs.Entries.{Made}
 use Rattle.aries.specs.Judging.{Judging, judged, near, room}
 use Rattle.aries.specs.Machine.{inRange}
+use Rattle.aries.specs.Mirrors.{seen}
 use Rattle.aries.specs.Macros.{carryDirect}
 use Rattle.aries.specs.Moves.{choosing, target, punch, position, move, setPatternOrigin}
 use Rattle.aries.specs.Runs.{Lent, Ran, entriesMade}
@@ -88,16 +89,21 @@ idle-left (Nibble on) e h = absurd (miss leftTags (tag (Nibble on)) tt h)
 idle-left Idle e h = refl
 idle-left (Stop optional) e h = absurd (miss leftTags (tag (Stop optional)) tt h)
 
--- ---- The pattern memories
+-- ---- What they keep
 
--- what is made leaves these memories
-record Keeps (ms : List Memory) (out : Out (Made Progress)) : Type 0 where
-  kept : (m : Made Progress) → out ≡ done m → m .after .state .memories ≡ ms
+-- what is made leaves memories and letters as the state had them
+record Keeps (s : State) (out : Out (Made Progress)) : Type 0 where
+  kept : (m : Made Progress) → out ≡ done m → (m .after .state .memories ≡ s .memories) × (m .after .state .spans ≡ s .spans) × (m .after .state .given ≡ s .given)
 
-keeps-done : {ms : List Memory} {m : Made Progress} → m .after .state .memories ≡ ms → Keeps ms (done m)
-keeps-done {m = m} h = record { kept = λ n q. ap (λ (x : Made Progress). x .after .state .memories) (sym (done-injective m n q)) ∙ h }
+keeps-done : {s : State} {m : Made Progress} → m .after .state .memories ≡ s .memories → m .after .state .spans ≡ s .spans → m .after .state .given ≡ s .given → Keeps s (done m)
+keeps-done {m = m} h i k =
+    record {
+      kept = λ n q.
+          let same = sym (done-injective m n q) in
+          (ap (λ (x : Made Progress). x .after .state .memories) same ∙ h, ap (λ (x : Made Progress). x .after .state .spans) same ∙ i, ap (λ (x : Made Progress). x .after .state .given) same ∙ k);
+    }
 
-keeps-need : {ms : List Memory} {rest : Out (Made Progress)} (b : Bool) (number line : ℕ) → Keeps ms rest → Keeps ms (_>>=_ (need b number line) (λ u. rest))
+keeps-need : {s : State} {rest : Out (Made Progress)} (b : Bool) (number line : ℕ) → Keeps s rest → Keeps s (_>>=_ (need b number line) (λ u. rest))
 keeps-need true number line h = h
 keeps-need false number line h = record { kept = λ m q. absurd (refused≢done number line m q) }
 
@@ -105,31 +111,34 @@ module _ (j : Judging) (f : Frame) (line : ℕ) (g : Progress) where
   abbrev near-target : Axes → Bool
   near-target a = judged (j .bounds) (near (target f (g .state) a))
 
-  abbrev covered-target : Axes → Bool
-  covered-target a = judged (j .bounds) (inRange f (target f (g .state) a))
+  abbrev seen-near : Axes → Bool
+  seen-near a = judged (j .bounds) (near (seen f (target f (g .state) a)))
 
-  plain-keeps : (d : Direct) → isPattern d ≡ false → Keeps (g .state .memories) (carryDirect j f line d g)
+  abbrev covered-target : Axes → Bool
+  covered-target a = judged (j .bounds) (inRange f (seen f (target f (g .state) a)))
+
+  plain-keeps : (d : Direct) → isPattern d ≡ false → Keeps (g .state) (carryDirect j f line d g)
   unfolding carryDirect position move setPatternOrigin punch
-  plain-keeps Lone e = keeps-done refl
+  plain-keeps Lone e = keeps-done refl refl refl
   plain-keeps (Punch a tool) e =
       keeps-need (ltb 0 (choosing (g .state) tool .tool)) 14 line
-      (keeps-need (near-target a) 15 line (keeps-need (covered-target a) 16 line (keeps-need (room (j .places) (g .entries)) 17 line (keeps-done refl))))
-  plain-keeps (Move a tool) e = keeps-need (near-target a) 15 line (keeps-need (covered-target a) 16 line (keeps-done refl))
-  plain-keeps (PatternOrigin a) e = keeps-need (near-target a) 15 line (keeps-done refl)
+      (keeps-need (seen-near a) 15 line (keeps-need (covered-target a) 16 line (keeps-need (room (j .places) (g .entries)) 17 line (keeps-done refl refl refl))))
+  plain-keeps (Move a tool) e = keeps-need (seen-near a) 15 line (keeps-need (covered-target a) 16 line (keeps-done refl refl refl))
+  plain-keeps (PatternOrigin a) e = keeps-need (near-target a) 15 line (keeps-done refl refl refl)
   plain-keeps (RunPattern p tool memory) e = absurd (true≢false e)
   plain-keeps (Recall n) e = absurd (true≢false e)
-  plain-keeps (Nibble on) e = keeps-done refl
-  plain-keeps Idle e = keeps-done refl
-  plain-keeps (Stop optional) e = keeps-need (room (j .places) (g .entries)) 17 line (keeps-done refl)
+  plain-keeps (Nibble on) e = keeps-done refl refl refl
+  plain-keeps Idle e = keeps-done refl refl refl
+  plain-keeps (Stop optional) e = keeps-need (room (j .places) (g .entries)) 17 line (keeps-done refl refl refl)
 
-  -- a plain block that is carried out is so with the memories of before put back
+  -- a plain block that is carried out is so with the memories and the letters of before put back
   pub plain-kept :
       {job : Job} {status : Status} {left : Progress} {before after : Lent} {k : ℕ} (d : Direct) → isPattern d ≡ false
       → Ran entriesMade job status left before after k (carryDirect j f line d g) → Ran entriesMade job status (keeping g left) before after k (carryDirect j f line d g)
   plain-kept d e ran =
       record {
         same-status = ran .same-status;
-        same-left = λ m q. ap (keeping g) (ran .same-left m q) ∙ rw (sym (plain-keeps d e .kept m q)) refl;
+        same-left = λ m q. let k = plain-keeps d e .kept m q in ap (keeping g) (ran .same-left m q) ∙ rw (sym (k .0), sym (k .1), sym (k .2)) refl;
         written = ran .written;
         counted = ran .counted;
         fitted = ran .fitted;

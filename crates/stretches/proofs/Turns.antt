@@ -12,6 +12,7 @@ use types.Run.{OneOf, miss}
 use denote.Enum.Declared.{tagOf}
 use Rattle.aries.proofs.block.Block.{the-type}
 use Rattle.aries.specs.declared.block.Outside.the-variants as Outside
+use Rattle.aries.specs.declared.block.Call.the-variants.{Plain}
 use Rattle.aries.specs.declared.block.Block.{Block}
 use Rattle.aries.specs.declared.block.Block.the-variants as Block
 use Rattle.aries.specs.declared.block.Decoded.the-variants as Decoded
@@ -36,7 +37,7 @@ use Rattle.stretches.proofs.Stretches.{stretch-block}
 
 -- the tags of blocks that are not direct, whatever they hold
 abbrev indirectTags : List ℕ
-indirectTags = tagOf the-type (Block.Call 0) ∷ tagOf the-type (Block.Outside Outside.End) ∷ []
+indirectTags = tagOf the-type (Block.Call (Plain 0)) ∷ tagOf the-type (Block.Outside Outside.End) ∷ []
 
 -- the code's test for one block too many
 spent : (counted : Bool) (blocks : ℕ) → counted && leb 100000 blocks ≡ true → not counted || ltb blocks 100000 ≡ false
@@ -77,17 +78,17 @@ module _ (job : Job) (f : Frame) (t : List ℕ) (at line : ℕ) (g : Progress) (
     may = rw same-counted (not-spent counted (g .blocks) room)
 
     -- the line is refused
-    pub turn-refused : (number : ℕ) → decodedAt (readerOf f) t at ≡ Decoded.Refused number → here ≡ refusedAt number line
-    turn-refused number e = block-here (begin-refused (limits job) f line (lineAt t at) g may number (decoded-refused (readerOf f) t at number e))
+    pub turn-refused : (number : ℕ) → decodedAt (readerOf f (g .state)) t at ≡ Decoded.Refused number → here ≡ refusedAt number line
+    turn-refused number e = block-here (begin-refused (limits job) f line (lineAt t at) g may number (decoded-refused (readerOf f (g .state)) t at number e))
 
-    module _ (i : Instruction) (end : ℕ) (e : decodedAt (readerOf f) t at ≡ Decoded.Instruction i end) where
+    module _ (i : Instruction) (end : ℕ) (e : decodedAt (readerOf f (g .state)) t at ≡ Decoded.Instruction i end) where
       -- the progress as the block finds it
       abbrev begins : Progress
       begins = begun counted (i .measure) g
 
       found : (b : Block) → i .block ≡ b → here ≡ onward (blockStep (limits job) f end line b begins) (stretch (limits job) f end line (lines (drop end t)))
       found b q =
-          let d = decoded-instruction (readerOf f) t at i end e in
+          let d = decoded-instruction (readerOf f (g .state)) t at i end e in
           block-here (begin-done (limits job) f line (lineAt t at) g may i (d .0)) ∙ rw (same-counted, d .1, q) refl
 
       pub turn-direct :

@@ -1,4 +1,4 @@
--- Direct blocks that run a pattern, and plain ones, which leave the pattern memories as they are.
+-- Direct blocks that run a pattern, and plain ones, which leave the pattern memories and the letters given as they are.
 use mathlib.Core.Bool.{Bool, true, false}
 use Rattle.aries.specs.declared.block.Direct.{Direct}
 use Rattle.aries.specs.declared.block.Direct.the-variants.{Lone, Punch, Move, PatternOrigin, RunPattern, Recall, Nibble, Idle, Stop}
@@ -27,7 +27,7 @@ isPunch (Nibble on) = false
 isPunch Idle = false
 isPunch (Stop optional) = false
 
--- what is left, with the pattern memories of the progress before
+-- what is left, with the pattern memories of the progress before and the letters given then
 abbrev pub keeping : Progress → Progress → Progress
 keeping before left =
     record {
@@ -39,6 +39,8 @@ keeping before left =
             nibble = left .state .nibble;
             tool = left .state .tool;
             memories = before .state .memories;
+            spans = before .state .spans;
+            given = before .state .given;
           };
       blocks = left .blocks;
       entries = left .entries;

@@ -43,13 +43,13 @@ stepOf (refused number line) = ends (refusedAt number line)
 -- what comes after it at a block, in a line that ends at a place; at a direct one it does not end
 abbrev pub sequelAt : Block → ℕ → ℕ → Sequel
 sequelAt (Block.Direct d) end line = Sequel.End
-sequelAt (Block.Call n) end line = Sequel.Call n end line
+sequelAt (Block.Call c) end line = Sequel.Call c end line
 sequelAt (Block.Outside o) end line = Sequel.Outside o end line
 
 -- a block that has begun, in a line that ends at a place
 abbrev pub blockStep : Judging → Frame → ℕ → ℕ → Block → Progress → Step
 blockStep j f end line (Block.Direct d) g = stepOf (carryDirect j f line d g)
-blockStep j f end line (Block.Call n) g = ends (endingWith g (Sequel.Call n end line))
+blockStep j f end line (Block.Call c) g = ends (endingWith g (Sequel.Call c end line))
 blockStep j f end line (Block.Outside o) g = ends (endingWith g (Sequel.Outside o end line))
 
 abbrev pub begunStep : Judging → Frame → ℕ → ℕ → Out Begun → Step
@@ -74,7 +74,7 @@ stretch j f at line (l ∷ ls) g = onward (lineStep j f (at + length l) line l g
 -- nothing follows a stretch
 abbrev pub isEnd : Sequel → Bool
 isEnd Sequel.End = true
-isEnd (Sequel.Call n end line) = false
+isEnd (Sequel.Call c end line) = false
 isEnd (Sequel.Outside o end line) = false
 
 -- the numbers of the lines from a place on, the first of which is given, fit 64 bits

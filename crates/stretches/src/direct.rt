@@ -9,6 +9,7 @@ ghost use mathlib.Core.Path.{_≡_};
 ghost use mathlib.Core.Bool.{true, false};
 ghost use Rattle.aries.specs.Macros.{carryDirect};
 ghost use Rattle.aries.specs.Runs.{lent, lentBoth, Carried};
+ghost use Rattle.aries.specs.Steady.{Steady};
 ghost use Rattle.stretches.specs.Plain.{isPattern, isPunch, keeping};
 
 // Whether a block runs a pattern, new or recalled.
@@ -31,6 +32,7 @@ fn pattern_outcome(
     progress: Progress,
 ) -> Outcome
     requires { ⌜ isPattern block ≡ true ⌝ }
+    requires { ⌜ Steady 0 frame ⌝ }
     ensures { λ r. ⌜ Carried r frame (lent (now (list .entry))) (lent (now (list .exit))) progress (λ j. carryDirect j frame line block) ⌝ }
 {
     match block {
@@ -52,6 +54,7 @@ pub fn carry_pattern(
     progress: Progress,
 ) -> Outcome
     requires { ⌜ isPattern block ≡ true ⌝ }
+    requires { ⌜ Steady 0 frame ⌝ }
     ensures { λ r. ⌜ Carried r frame (lentBoth (now (list .entry)) (now (tally .entry))) (lentBoth (now (list .exit)) (now (tally .exit))) progress (λ j. carryDirect j frame line block) ⌝ }
 {
     let outcome = pattern_outcome(list, frame, line, block, progress);
@@ -60,12 +63,14 @@ pub fn carry_pattern(
     outcome
 }
 
-// A progress with the pattern memories of the one before.
+// A progress with the pattern memories of the one before, and X and Y as given then.
 fn keeping(before: Progress, left: Progress) -> Progress
     ensures { λ r. ⌜ r ≡ keeping before left ⌝ }
 {
     let kept = before.state;
     let memories = kept.memories;
+    let spans = kept.spans;
+    let given = kept.given;
     let state = left.state;
     let current = state.current;
     let waiting = state.waiting;
@@ -77,6 +82,8 @@ fn keeping(before: Progress, left: Progress) -> Progress
             incremental: state.incremental,
             nibble: state.nibble,
             tool: state.tool,
+            spans,
+            given,
         },
         blocks: left.blocks,
         entries: left.entries,
@@ -92,6 +99,7 @@ fn plain_outcome(
     progress: Progress,
 ) -> Outcome
     requires { ⌜ isPattern block ≡ false ⌝ }
+    requires { ⌜ Steady 0 frame ⌝ }
     ensures { λ r. ⌜ Carried r frame (lent (now (list .entry))) (lent (now (list .exit))) progress (λ j. carryDirect j frame line block) ⌝ }
 {
     match block {
@@ -126,7 +134,8 @@ fn is_punch(block: Direct) -> bool
 }
 
 // Any other direct block that has been decoded and counted. A hit is one with the tool that it leaves; a stop is not
-// counted. It leaves the pattern memories as they are, and saying so spares copying them, most of the bytes of a state.
+// counted. It leaves the pattern memories and the letters given as they are, and saying so spares copying them, most of the
+// bytes of a state.
 pub fn carry_plain(
     list: &mut [i32],
     tally: &mut [u64; FIGURES],
@@ -136,6 +145,7 @@ pub fn carry_plain(
     progress: Progress,
 ) -> Outcome
     requires { ⌜ isPattern block ≡ false ⌝ }
+    requires { ⌜ Steady 0 frame ⌝ }
     ensures { λ r. ⌜ Carried r frame (lentBoth (now (list .entry)) (now (tally .entry))) (lentBoth (now (list .exit)) (now (tally .exit))) progress (λ j. carryDirect j frame line block) ⌝ }
 {
     let outcome = plain_outcome(list, frame, line, block, progress);

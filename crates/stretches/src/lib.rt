@@ -3,8 +3,10 @@ use crate::direct::carry_pattern;
 use crate::direct::carry_plain;
 use crate::direct::is_pattern;
 use aries::block::Block;
+use aries::block::Call;
 use aries::block::Decoded;
 use aries::block::Outside;
+use aries::reader::Reader;
 use aries::refusal;
 use aries::state::Frame;
 use aries::state::Outcome;
@@ -16,6 +18,7 @@ ghost use lib.ListN.{drop};
 ghost use Rattle.aries.specs.declared.state.Status.the-variants.{Passed, Refused};
 ghost use Rattle.aries.specs.Reader.{readerOf};
 ghost use Rattle.aries.specs.Runs.{lentBoth};
+ghost use Rattle.aries.specs.Steady.{Steady};
 ghost use Rattle.aries.specs.Text.{lines};
 ghost use Rattle.stretches.specs.declared.Sequel.the-variants.{End};
 ghost use Rattle.stretches.specs.Lookahead.{ahead};
@@ -33,7 +36,7 @@ const LETTER_V: u8 = b'V';
 // where its line ends and the number of that line.
 pub enum Sequel {
     End,
-    Call(u8, usize, u64),
+    Call(Call, usize, u64),
     Outside(Outside, usize, u64),
 }
 
@@ -44,7 +47,7 @@ impl Sequel {
     {
         match block {
             Block::Direct(_) => Sequel::End,
-            Block::Call(number) => Sequel::Call(number, end, line),
+            Block::Call(call) => Sequel::Call(call, end, line),
             Block::Outside(outside) => Sequel::Outside(outside, end, line),
         }
     }
@@ -102,16 +105,16 @@ pub enum Ahead {
     Block(usize, u64, Decoded),
 }
 
-// Looks for the next block from a place of the text on, where the line has a number, and decodes it as the frame has it read.
-pub fn look_ahead(frame: Frame, text: &[u8], from: usize, first: u64) -> Ahead
+// Looks for the next block from a place of the text on, where the line has a number, and decodes it.
+pub fn look_ahead(reader: Reader, text: &[u8], from: usize, first: u64) -> Ahead
     requires { ⌜ LinesFit first from (now text) ⌝ }
-    ensures { λ r. ⌜ r ≡ ahead (readerOf frame) (now (text .entry)) from first ⌝ }
+    ensures { λ r. ⌜ r ≡ ahead reader (now (text .entry)) from first ⌝ }
 {
     let at = text::next_block(text, from);
     if text.len() <= at {
         return Ahead::Nothing;
     }
-    let decoded = decode::decode(frame.reader(), text, at);
+    let decoded = decode::decode(reader, text, at);
     Ahead::Block(at, first + ((at - from) as u64), decoded)
 }
 
@@ -128,7 +131,8 @@ pub fn run_stretch(
     progress: Progress,
 ) -> Stretch
     requires { ⌜ LinesFit first from (now text) ⌝ }
-    requires { ⌜ start ≡ ahead (readerOf frame) (now text) from first ⌝ }
+    requires { ⌜ start ≡ ahead (readerOf frame (progress .state)) (now text) from first ⌝ }
+    requires { ⌜ Steady 0 frame ⌝ }
     ensures { λ r. ⌜ Stretches r frame (lentBoth (now (list .entry)) (now (tally .entry))) (lentBoth (now (list .exit)) (now (tally .exit))) progress (λ j. stretch j frame from first (lines (drop from (now (text .entry))))) ⌝ }
 {
     let mut now = progress;
@@ -173,7 +177,8 @@ pub fn run_stretch(
                 }
                 at = end;
                 line = number;
-                next = look_ahead(frame, text, at, line);
+                let given = now.state.given;
+                next = look_ahead(frame.reader(given), text, at, line);
             }
         }
     }

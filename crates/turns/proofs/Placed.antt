@@ -86,7 +86,7 @@ module _ (end line : ℕ) (b : Block) (stage : Stage) (s : Setup) (g : Progress)
     pub settles-as :
         {r : Turn} (k : Machine) → r ≡ record { stage = Running; setup = withMachine s k; progress = withState g (movedTo (g .state) q); next = Line end line }
         → named q ≡ As k → Settles r end line b stage s g
-    settles-as k e n = leaves-line end line s g (λ j t m. placed j t end line b (program stage s m g)) e refl refl (λ t m. rw (machine-placed t m, n))
+    settles-as k e n = leaves-line end line s g (λ j t m. placed j t end line b (program stage s m g)) e refl refl (λ k. k) (λ t m. rw (machine-placed t m, n))
 
 -- ---- G93 and G98
 

@@ -1,5 +1,6 @@
 -- What blocks leave that need no stored bodies, and what is left of a text behind them.
 use mathlib.Core.Path.{_≡_}
+use mathlib.Core.Bool.{true}
 use mathlib.Core.List.{List}
 use Prim.Native.Nat.{ℕ, _+_}
 use lib.ListN.{drop}
@@ -17,9 +18,10 @@ use Rattle.aries.specs.declared.state.Progress.{Progress}
 use Rattle.aries.specs.Outcome.{Out, refused, _>>=_, need}
 use Rattle.aries.specs.Text.{lines}
 use Rattle.aries.specs.Entries.{Made, andThen}
-use Rattle.aries.specs.Judging.{Judging, limits}
+use Rattle.aries.specs.Judging.{Judging, limits, near}
 use Rattle.aries.specs.Program.{inPlace, carryOut, settled, runFrom}
 use Rattle.aries.specs.Setup.{setOrigin}
+use Rattle.aries.specs.Steady.{GivenNear, CallNear}
 use Rattle.turns.specs.declared.turn.Called.{Called}
 use Rattle.turns.specs.declared.turn.Called.the-variants.{Macro, Part}
 use Rattle.turns.specs.declared.turn.Next.{Next}
@@ -54,7 +56,7 @@ linesFrom j t at line p = runFrom j t at line (lines (drop at t)) p
 
 -- the block that runs stored bodies
 abbrev pub blockOf : Called → Block
-blockOf (Macro n) = Block.Call n
+blockOf (Macro c) = Block.Call c
 blockOf (Part c) = Block.Outside (Outside.Copy c)
 
 -- What is left, by what comes next. After a refusal nothing is, and the rest of a turn is free.
@@ -73,6 +75,24 @@ Comes P (Run c end line) = P end line
 Comes P (Open n end line) = P end line
 Comes P (Refused number line) = Unit {0}
 
+-- ---- How far it reaches
+
+-- an origin that is near, and letters given that are no longer than words are
+abbrev pub Near : Setup → Progress → Type 0
+Near s g = (near (s .origin) ≡ true) × GivenNear (g .state)
+
+-- a call in a block, if it is one
+abbrev pub CalledNear : Called → Type 0
+CalledNear (Macro c) = CallNear c
+CalledNear (Part c) = Unit {0}
+
+-- what comes next finds them so, if it is not a refusal
+abbrev pub NextNear : Next → Setup → Progress → Type 0
+NextNear (Line at line) s g = Near s g
+NextNear (Run c end line) s g = Near s g × CalledNear c
+NextNear (Open n end line) s g = Near s g
+NextNear (Refused number line) s g = Unit {0}
+
 -- ---- Contracts
 
 -- no block but G92 may come at these stages
@@ -88,6 +108,7 @@ pub record Leaves (r : Turn) (end line : ℕ) (s : Setup) (g : Progress) (what :
   pub entries : r .progress .entries ≡ g .entries
   pub job : r .setup .job ≡ s .job
   pub comes : Comes (λ e l. (e ≡ end) × (l ≡ line)) (r .next)
+  pub near : Near s g → NextNear (r .next) (r .setup) (r .progress)
 
 abbrev pub SetsOrigin : Turn → ℕ → ℕ → Sheet → Point → Setup → Progress → Type 0
 SetsOrigin r end line sheet offset s g = Leaves r end line s g (λ j t m. settled (program Running s m g) (setOrigin j line sheet offset s))

@@ -55,14 +55,5 @@ pub fn set_origin(
 pub fn offset_by(axes: Axes, before: Point) -> Point
     ensures { λ r. ⌜ r ≡ offsetBy axes before ⌝ }
 {
-    let x = axes.x;
-    let y = axes.y;
-    let mut offset = before;
-    if x.written {
-        offset.x = x.value;
-    }
-    if y.written {
-        offset.y = y.value;
-    }
-    offset
+    axes.over(before)
 }

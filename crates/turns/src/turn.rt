@@ -1,3 +1,4 @@
+use aries::block::Call;
 use aries::block::Copies;
 use aries::setup::Setup;
 use aries::setup::Stage;
@@ -5,9 +6,9 @@ use aries::state::Progress;
 ghost use mathlib.Core.Path.{_≡_};
 ghost use Rattle.aries.specs.declared.setup.Stage.the-variants.{Running};
 
-// A block that runs stored bodies: W, or G75 and G76.
+// A block that runs stored bodies: W and G73, or G75 and G76.
 pub enum Called {
-    Macro(u8),
+    Macro(Call),
     Part(Copies),
 }
 

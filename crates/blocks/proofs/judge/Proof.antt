@@ -23,7 +23,7 @@ module _ (c : tie.Start) where
 -- the first test
 module _ (c : tie.After-is-listed) where
   abbrev named : tie.After-kind-of
-  named = c .before .before
+  named = c .before .before .before
 
   abbrev start : tie.Start
   start = named .before .before
@@ -31,8 +31,8 @@ module _ (c : tie.After-is-listed) where
   same-kind : named .kind-of .result ≡ kind start
   same-kind = named .kind-of .ensures
 
-  tested : c .is-listed .result ≡ isCounted (letters start) (start .args .summary) (kind start)
-  tested = c .is-listed .ensures ∙ ap (isCounted (letters start) (start .args .summary)) same-kind
+  tested : c .is-listed .result ≡ isCounted (start .args .reader .given) (letters start) (start .args .summary) (kind start)
+  tested = c .is-listed .ensures ∙ ap (isCounted (start .args .reader .given) (letters start) (start .args .summary)) same-kind
 
 returns : tie.Need-returns
 returns c =
@@ -47,14 +47,14 @@ module _ (c : tie.After-to-hundredths) where
   abbrev begun : tie.Start
   begun = start first
 
-  listed : isCounted (letters begun) (begun .args .summary) (kind begun) ≡ true
+  listed : isCounted (begun .args .reader .given) (letters begun) (begun .args .summary) (kind begun) ≡ true
   listed = sym (tested first) ∙ not-false (first .is-listed .result) (c .before .before .if1 .left)
 
   abbrev hundredths : Letters
-  hundredths = inHundredths (begun .args .setting) (kind begun) (letters begun)
+  hundredths = inHundredths (begun .args .reader .setting) (kind begun) (letters begun)
 
   in-hundredths : lettersOf (begun .args .forms .now) (c .to-hundredths .last .1 .1 .0) ≡ hundredths
-  in-hundredths = c .to-hundredths .ensures .0 ∙ ap (λ (k : Kind). inHundredths (begun .args .setting) k (letters begun)) (same-kind first)
+  in-hundredths = c .to-hundredths .ensures .0 ∙ ap (λ (k : Kind). inHundredths (begun .args .reader .setting) k (letters begun)) (same-kind first)
 
 -- the second test
 module _ (c : tie.After-is-ranged) where
@@ -64,10 +64,10 @@ module _ (c : tie.After-is-ranged) where
   abbrev entry : tie.Start
   entry = begun scaled
 
-  passed : (scaled .to-hundredths .result && c .is-ranged .result) ≡ (lengthsFit (entry .args .setting) (kind entry) (letters entry) && isRanged (hundredths scaled) (kind entry))
+  passed : (scaled .to-hundredths .result && c .is-ranged .result) ≡ (lengthsFit (entry .args .reader .setting) (kind entry) (letters entry) && isRanged (hundredths scaled) (kind entry))
   passed =
       ap₂ _&&_
-      (scaled .to-hundredths .ensures .1 ∙ ap (λ (k : Kind). lengthsFit (entry .args .setting) k (letters entry)) (same-kind (first scaled)))
+      (scaled .to-hundredths .ensures .1 ∙ ap (λ (k : Kind). lengthsFit (entry .args .reader .setting) k (letters entry)) (same-kind (first scaled)))
       (c .is-ranged .ensures ∙ ap₂ isRanged (in-hundredths scaled) (same-kind (first scaled)))
 
 returns-2 : tie.Need-returns-2

@@ -1,10 +1,14 @@
 -- By what 15 makes of the place, and by what follows the direct blocks at the front of the part.
 use borrow.Author.Needs.{needs}
-use mathlib.Core.Path.{sym, ap, _∙_}
+use mathlib.Core.Path.{_≡_, sym, ap, ap₂, subst, _∙_}
+use mathlib.Core.Bool.{true}
 use Prim.Native.Nat.{_-_}
+use native.Mathlib.Omega.{arith}
+use Rattle.aries.specs.declared.point.Point.{Point}
 use Rattle.aries.specs.declared.state.Frame.{Frame}
 use Rattle.aries.specs.declared.state.Outcome.{Outcome}
 use Rattle.aries.specs.declared.state.Progress.{Progress}
+use Rattle.aries.specs.declared.state.State.{State}
 use Rattle.aries.specs.Outcome.{Out}
 use Rattle.aries.specs.Entries.{Made}
 use Rattle.aries.specs.Judging.{Judging, limits, near}
@@ -15,9 +19,11 @@ use Rattle.aries.specs.Reader.{readerOf}
 use Rattle.aries.specs.WidePoints.{pointOf}
 use Rattle.aries.specs.Runs.{Lent, lentBoth, Carried}
 use Rattle.aries.specs.Setup.{frameAt}
+use Rattle.aries.specs.Steady.{GivenNear, Steady}
 use Rattle.aries.proofs.Carried.{carried-refused}
+use Rattle.aries.proofs.Steady.{steady-at, steady-less}
 use Rattle.stretches.specs.Lookahead.{ahead}
-use Rattle.bodies.proofs.Rest.{lines-over, lines-left, left-fits}
+use Rattle.bodies.proofs.Rest.{lines-over, lines-left, left-fits, ended-given}
 use Rattle.aries.proofs.WidePoints.{at-passed, far-failed}
 use Rattle.copies.specs.Copying.{bodyOf}
 use Rattle.copies.proofs.CopyAll.{copy-far, copy-carried}
@@ -44,12 +50,26 @@ returns c =
     carried-refused (s .args .frame) (copied s) (c .refused .ensures)
     (copy-far (s .args .frame .job) (parts s (limits (s .args .frame .job))) (s .args .frame) (s .args .line) (s .args .found) p (counts s) far)
 
+-- the place is judged, and the copy has its frame there
+module _ (c : tie.After-at) where
+  abbrev place : tie.After-located2
+  place = c .before .before
+
+  abbrev from : tie.Start
+  from = place .before .before .before .before .before
+
+  here-steady : Steady 3 (c .at .result)
+  here-steady =
+      let p = pointOf (from .args .place) in
+      let q = at-passed (near p) p (sym (place .before .before .located .ensures) ∙ place .located2 .given .1) in
+      subst (Steady 3) (sym (c .at .ensures)) (steady-at _ (subst (λ (x : Point). near x ≡ true) (sym (q .1)) (q .0)) (from .pre .1 .0))
+
 -- the place is judged, and the stretch at the front of the part is carried out there
 module _ (e : tie.After-is-end) where
   abbrev stretched : tie.After-run-stretch
   stretched = e .before .before
 
-  abbrev begins : tie.After-copy-start
+  abbrev begins : tie.After-standing-at
   begins = stretched .before .before .before
 
   abbrev judged : tie.After-located2
@@ -62,7 +82,7 @@ module _ (e : tie.After-is-end) where
   here = begins .before .at .result
 
   abbrev begun : Progress
-  begun = withState (counts entry) (begins .copy-start .result)
+  begun = withState (counts entry) (begins .standing-at .result)
 
   abbrev calls : Calls
   calls = call (limits (here .job)) (bodiesOf (entry .args .text .now) (entry .args .macros)) (mostCalls - 1)
@@ -74,16 +94,21 @@ module _ (e : tie.After-is-end) where
       let q = at-passed (near p) p (sym (judged .before .before .located .ensures) ∙ judged .located2 .given .1) in
       copy-carried (parts entry) (entry .args .frame) (entry .args .line) (entry .args .found) p (counts entry) here begun (q .0)
       (begins .before .at .ensures ∙ ap (frameAt (entry .args .frame)) (q .1))
-      (ap (withState (counts entry)) (begins .copy-start .ensures ∙ ap (copyStart (entry .args .found)) (q .1)))
+      (ap (withState (counts entry)) (begins .standing-at .ensures ∙ ap (copyStart (entry .args .found)) (q .1)))
       h
 
--- the frame of the copy has blocks read as the part's has
+-- the frame of the copy and the state that it begins with have blocks read as those of the run have
 run-stretch-requires : tie.Need-run-stretch-requires
 run-stretch-requires c κs =
-    let at = c .before .before .before in
-    let place = at .before .before in
-    let s = place .before .before .before .before .before in
-    (s .pre .0, s .pre .1 ∙ ap (λ (f : Frame). ahead (readerOf f) (s .args .body .now) 0 (s .args .first)) (sym (at .at .ensures)))
+    let begins = c .before .before in
+    let at = begins .before in
+    let s = from at in (
+      s .pre .0 .0,
+      (
+        s .pre .0 .1 ∙ ap₂ (λ (f : Frame) (t : State). ahead (readerOf f t) (s .args .body .now) 0 (s .args .first)) (sym (at .at .ensures)) (sym (begins .standing-at .ensures)),
+        steady-less (omega arith) (here-steady at),
+      ),
+    )
 
 returns-2 : tie.Need-returns-2
 unfolding runBody
@@ -96,7 +121,11 @@ run-rest-requires : tie.Need-run-rest-requires
 run-rest-requires c κs =
     let e = c .before .before .before in
     let a = entry e .args in
-    left-fits (calls e) (a .body .now) 0 (a .first) (stretched e .run-stretch .ensures) (entry e .pre .0)
+    let ran = stretched e .run-stretch .ensures in
+    let given = subst GivenNear (sym (begins e .standing-at .ensures)) (entry e .pre .1 .1) in (
+      left-fits (calls e) (a .body .now) 0 (a .first) ran given (entry e .pre .0 .0),
+      (here-steady (begins e .before), ended-given (calls e) (a .body .now) 0 (a .first) ran given (sym (e .is-end .ensures) ∙ c .before .before .if1 .left)),
+    )
 
 returns-3 : tie.Need-returns-3
 unfolding runBody

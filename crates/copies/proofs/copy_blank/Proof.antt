@@ -30,8 +30,8 @@ returns c l =
     carried-refused (a .frame) (λ j. allCopies j blankPart (a .frame) (a .line) (a .layout) (a .copies)) (c .refused .ensures)
     (blank-refused (a .frame) (a .line) (a .layout) (a .copies) (a .progress) (sym (d .last-copy .ensures) ∙ c .before .enum-told .given .1))
 
-copy-start-requires : tie.Need-copy-start-requires
-copy-start-requires c κs = search needs
+standing-at-requires : tie.Need-standing-at-requires
+standing-at-requires c κs = search needs
 
 with-state-requires : tie.Need-with-state-requires
 with-state-requires c κs = search needs
@@ -44,7 +44,7 @@ returns-2 c l =
     let k = c .before .before .before .before .before in
     let d = k .before .before in
     let a = d .before .args in
-    let e = c .before .with-state .ensures ∙ ap (withState (a .progress)) (c .before .before .copy-start .ensures) in
+    let e = c .before .with-state .ensures ∙ ap (withState (a .progress)) (c .before .before .standing-at .ensures) in
     carried-no-entry (a .frame) (λ j. allCopies j blankPart (a .frame) (a .line) (a .layout) (a .copies))
     (c .passed .ensures ∙ ap (λ (g : Progress). record { status = Passed; progress = g }) e) refl
     (blank-passed (a .frame) (a .line) (a .layout) (a .copies) (a .progress) (sym (d .last-copy .ensures) ∙ k .last .given .1))
@@ -58,7 +58,7 @@ copy-blank-spec =
     enum-told
     refused-requires
     returns
-    copy-start-requires
+    standing-at-requires
     with-state-requires
     passed-requires
     returns-2)

@@ -1,6 +1,6 @@
 -- One law of `copyPart` for each way out. Assumes nothing.
 use borrow.Author.Needs.{needs}
-use mathlib.Core.Path.{_≡_, sym, ap, ap₂, _∙_}
+use mathlib.Core.Path.{_≡_, sym, ap, ap₂, _∙_, subst}
 use Prim.Native.Nat.{ℕ, _-_, _≤_}
 use native.Mathlib.Omega.{arith}
 use lib.ListN.{length, take, drop}
@@ -9,7 +9,9 @@ use Rattle.aries.specs.Judging.{limits}
 use Rattle.aries.specs.Layouts.{copyPart}
 use Rattle.aries.specs.Macros.{foundIn, bodiesOf}
 use Rattle.aries.specs.Setup.{ordinaryFrame}
+use Rattle.aries.specs.Steady.{Steady}
 use Rattle.aries.proofs.Carried.{carried-refused}
+use Rattle.aries.proofs.Steady.{steady-ordinary, steady-less}
 use Rattle.aries.proofs.Calls.{clipped, clipped-within, part-clipped}
 use Rattle.copies.proofs.CopyPart.{part-missing, part-plain, part-copied}
 use Rattle.copies.proofs.copy_part.Statement.{statement}
@@ -88,7 +90,10 @@ part-copy-over-end : tie.Need-part-copy-over-end
 part-copy-over-end c = inside (c .before .before .before) .1
 
 copy-over-requires : tie.Need-copy-over-requires
-copy-over-requires c κs = search needs
+copy-over-requires c κs =
+    let f = c .before .before .before in
+    let s = entry (f .before .before) in
+    (subst (Steady 3) (sym (f .frame .ensures)) (steady-less (omega arith) (steady-ordinary (s .args .setup) (s .pre .0))), s .pre .1)
 
 same-length : tie.Need-same-length
 same-length c = search needs

@@ -8,7 +8,7 @@ use Prim.Native.String.{String}
 use native.Mathlib.Omega.{arith}
 use borrow.Author.Needs.{needs}
 use Rattle.aries.specs.declared.block.Kind.{Kind}
-use Rattle.aries.specs.declared.block.Kind.the-variants.{G26, G28, G36, G37, G50, G70, G72, G75, G76, G92, G93, Position, Lone, LetterM, LetterB, LetterU, LetterV, LetterW, Unknown}
+use Rattle.aries.specs.declared.block.Kind.the-variants.{G26, G28, G36, G37, G50, G70, G72, G73, G75, G76, G92, G93, Position, Lone, LetterM, LetterB, LetterU, LetterV, LetterW, Unknown}
 use Rattle.aries.specs.declared.word.Word.{Word}
 use Rattle.aries.specs.declared.reader.Setting.the-variants.{Millimetres}
 use Rattle.aries.specs.Letters.{letterI, letterJ, letterP, letterX, letterY}
@@ -74,7 +74,7 @@ unfolding inHundredths lengthsFit bytes
 returns-4 c =
     let s = c .before .before .before in
     let e = c .two-to-hundredths3 .ensures in
-    of-kind s (alike lengthsOf (s .args .kind) (G70 ∷ G72 ∷ G92 ∷ G93 ∷ Position ∷ []) refl (c .before .before .match .keys4)) (e .0)
+    of-kind s (alike lengthsOf (s .args .kind) (G70 ∷ G72 ∷ G73 ∷ G92 ∷ G93 ∷ Position ∷ []) refl (c .before .before .match .keys4)) (e .0)
     (e .1 .1 ∙ pass-all (fits s) (letterX ∷ letterY ∷ []))
 
 -- ---- G29

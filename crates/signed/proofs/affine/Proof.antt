@@ -1,13 +1,15 @@
--- The product fits 64 bits, and the sum with it too: their sizes are at most 2^62 and 2^31 more. Assumes nothing.
+-- The product of a count of 16 bits is small, and the sum with it fits 64. Assumes nothing.
+use mathlib.Core.Path.{refl}
 use borrow.Author.Needs.{needs}
+use native.Mathlib.Nat.{le-trans}
 use native.Mathlib.Omega.{arith}
-use Prim.Native.Nat.{_<_, _^_}
-use lib.Dec.{lit<}
-use lib.IntN.{pos, _+ℤ_, _*ℤ_}
+use Prim.Native.Nat.{_≤_, _<_, _^_}
+use lib.Dec.{lit<, lit≤}
+use lib.IntN.{pos, natAbs, _+ℤ_, _*ℤ_}
 use mir.Syntax.{w32, w64}
 use mir.Val.{SFits}
 use mir.Facts.{toZ-ofZ, toZ-pos}
-use Rattle.signed.proofs.Integers.{read-wide, widened, abs-word, abs-add, abs-product, product-fits, count-fits, fits-abs}
+use Rattle.signed.proofs.Integers.{read-wide, widened, abs-word, abs-add, abs-mul, product-fits, count-fits, fits-abs}
 use Rattle.signed.proofs.affine.Statement.{statement}
 use Rattle.signed.proofs.affine.Tie as tie
 
@@ -21,12 +23,15 @@ module _ (c : tie.Start) where
   product-in : SFits w64 (pos (c .args .n) *ℤ c .args .b)
   product-in = product-fits (pos (c .args .n)) (c .args .b) n-fits (c .fits .b)
 
+  product-small : natAbs (pos (c .args .n) *ℤ c .args .b) ≤ 140735340871680
+  product-small = abs-mul (pos (c .args .n)) (c .args .b) 65535 2147483648 (omega arith) (abs-word (c .args .b) (c .fits .b))
+
+  sum-small : natAbs (c .args .a +ℤ pos (c .args .n) *ℤ c .args .b) ≤ 140737488355328
+  sum-small =
+      abs-add (c .args .a) (pos (c .args .n) *ℤ c .args .b) 2147483648 140735340871680 (abs-word (c .args .a) (c .fits .a)) product-small
+
   sum-in : SFits w64 (c .args .a +ℤ pos (c .args .n) *ℤ c .args .b)
-  sum-in =
-      fits-abs w64 (c .args .a +ℤ pos (c .args .n) *ℤ c .args .b) 4611686020574871552
-      (abs-add (c .args .a) (pos (c .args .n) *ℤ c .args .b) 2147483648 4611686018427387904
-      (abs-word (c .args .a) (c .fits .a)) (abs-product (pos (c .args .n)) (c .args .b) n-fits (c .fits .b)))
-      (lit< tt)
+  sum-in = fits-abs w64 _ 140737488355328 sum-small (lit< tt)
 
 cast-result : tie.Need-cast-result
 cast-result c = read-wide (c .args .a) (c .fits .a)
@@ -59,6 +64,7 @@ returns c =
       toZ-ofZ (product-in c),
       toZ-ofZ (sum-in c),
     )
+    (refl, le-trans (sum-small c) (lit≤ tt))
 
 pub affine-spec : {M : Type 1} → statement M
 affine-spec =

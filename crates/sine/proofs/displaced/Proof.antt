@@ -1,5 +1,5 @@
 -- The product fits 64 bits; its rounded quotient is small, so that the sum fits too. Assumes nothing.
-use mathlib.Core.Path.{_≡_}
+use mathlib.Core.Path.{_≡_, refl}
 use Prim.Native.Nat.{_≤_}
 use native.Mathlib.Nat.{le-trans}
 use lib.Dec.{lit<, lit≤}
@@ -32,11 +32,12 @@ module _ (c : tie.Start) where
   offset-bound : natAbs (offset (c .args .distance) (c .args .sine)) ≤ 4611686018
   offset-bound = offset-small (c .args .distance) (c .args .sine) 4611686018427387904 product-small
 
+  sum-small : natAbs (c .args .start +ℤ offset (c .args .distance) (c .args .sine)) ≤ 6759169666
+  sum-small =
+      abs-add (c .args .start) (offset (c .args .distance) (c .args .sine)) 2147483648 4611686018 (abs-word (c .args .start) (c .fits .start)) offset-bound
+
   sum-wide : SFits w64 (c .args .start +ℤ offset (c .args .distance) (c .args .sine))
-  sum-wide =
-      fits-abs w64 (c .args .start +ℤ offset (c .args .distance) (c .args .sine)) 6759169666
-      (abs-add (c .args .start) (offset (c .args .distance) (c .args .sine)) 2147483648 4611686018 (abs-word (c .args .start) (c .fits .start)) offset-bound)
-      (lit< tt)
+  sum-wide = fits-abs w64 _ 6759169666 sum-small (lit< tt)
 
 -- the call's result, from the arguments themselves
 offset-is : (c : tie.After-rounded) → c .rounded .result ≡ offset (c .before .args .distance) (c .before .args .sine)
@@ -91,7 +92,7 @@ returns c =
       toZ-ofZ (start-wide (c .before)),
       read-back w64 (c .rounded .result) (c .rounded .ok),
     )
-    (simp (offset-is c, toZ-ofZ (sum-wide (c .before))))
+    (simp (offset-is c, toZ-ofZ (sum-wide (c .before))) (refl, le-trans (sum-small (c .before)) (lit≤ tt)))
 
 pub displaced-spec : {M : Type 1} → statement M
 displaced-spec =

@@ -1,8 +1,10 @@
 -- By whether the macro runs; if so, its blocks do, from the first one on.
-use mathlib.Core.Path.{refl, sym, _∙_}
+use mathlib.Core.Path.{refl, sym, _∙_, subst}
 use Prim.Native.Nat.{_-_}
 use native.Mathlib.Omega.{arith}
 use borrow.Author.Needs.{needs}
+use Rattle.aries.specs.Steady.{Steady}
+use Rattle.aries.proofs.Steady.{steady-ordinary, steady-less}
 use borrow.Author.Tests.{not-true, not-false}
 use Rattle.aries.specs.Judging.{limits}
 use Rattle.aries.specs.Bodies.{firstRun}
@@ -22,7 +24,10 @@ returns c =
     (sym (r .runs-first .ensures) ∙ not-true _ (c .before .if1 .taken)))
 
 run-blocks-requires : tie.Need-run-blocks-requires
-run-blocks-requires c κs = let e = c .before .before .before .before .before .before .before in omega (arith, e .good)
+run-blocks-requires c κs =
+    let e = c .before .before .before .before .before .before .before in
+    let frame = c .frame .ensures in
+    (omega (arith, e .good), (subst (Steady 3) (sym frame) (steady-less (omega arith) (steady-ordinary (e .args .setup) (e .pre .0))), e .pre .1))
 
 returns-2 : tie.Need-returns-2
 returns-2 c =

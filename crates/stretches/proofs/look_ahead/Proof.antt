@@ -1,14 +1,11 @@
--- The next place with a block, if the text has it, and its line decoded by the frame's reader.
-use mathlib.Core.Path.{_≡_, sym, ap, _∙_}
+-- The next place with a block, if the text has it, and its line decoded.
+use mathlib.Core.Path.{_≡_, sym}
 use Prim.Native.Nat.{_+_, _-_}
 use native.Mathlib.Omega.{arith}
 use borrow.Author.Needs.{needs}
 use lib.ListN.{drop, length-drop}
-use Rattle.aries.specs.declared.reader.Reader.{Reader}
-use Rattle.aries.specs.Reader.{readerOf}
 use Rattle.text.specs.Lines.{blanks}
 use Rattle.text.proofs.Lines.{blanks-short}
-use Rattle.decode.specs.Decoding.{decodedAt}
 use Rattle.stretches.proofs.Lookahead.{ahead-some, ahead-none}
 use Rattle.stretches.proofs.look_ahead.Statement.{statement}
 use Rattle.stretches.proofs.look_ahead.Tie as tie
@@ -16,28 +13,27 @@ use Rattle.stretches.proofs.look_ahead.Tie as tie
 returns : tie.Need-returns
 returns c =
     let a = c .before .before .before .args in
-    sym (ahead-none (readerOf (a .frame)) (a .text .now) (a .from) (a .first) (omega (arith, c .if1 .taken, c .before .next-block .ensures)))
+    sym (ahead-none (a .reader) (a .text .now) (a .from) (a .first) (omega (arith, c .if1 .taken, c .before .next-block .ensures)))
 
 -- the place is not before the one looked from, and its line has a number that fits
 sub-place : tie.Need-sub-t7
-sub-place c = omega (arith, c .before .before .before .next-block .ensures)
+sub-place c = omega (arith, c .before .before .next-block .ensures)
 
-add-line : tie.Need-add-t11
+add-line : tie.Need-add-t10
 add-line c =
-    let b = c .before .before .before in
+    let b = c .before .before in
     let a = b .before .before .args in
     omega (arith, b .before .before .pre, b .next-block .ensures, blanks-short (drop (a .from) (a .text .now)), length-drop (a .from) (a .text .now))
 
 returns-2 : tie.Need-returns-2
 returns-2 c =
-    let b = c .before .before .before in
+    let b = c .before .before in
     let a = b .before .before .args in
-    let some = ahead-some (readerOf (a .frame)) (a .text .now) (a .from) (a .first) (omega (arith, c .before .before .if1 .left, b .next-block .ensures)) in
+    let some = ahead-some (a .reader) (a .text .now) (a .from) (a .first) (omega (arith, c .before .if1 .left, b .next-block .ensures)) in
     let n : a .from + blanks (drop (a .from) (a .text .now)) - a .from ≡ blanks (drop (a .from) (a .text .now)) = omega arith in
-    let decoded = c .decode .ensures ∙ ap (λ (r : Reader). decodedAt r (a .text .now) (b .next-block .result)) (c .before .reader .ensures) in
-    rw (decoded, b .next-block .ensures, n) (sym some)
+    rw (c .decode .ensures, b .next-block .ensures, n) (sym some)
 
 pub look-ahead-spec : {M : Type 1} → statement M
 look-ahead-spec =
     tie.close
-    (tie.spec (λ c κs. search needs) returns (λ c κs. search needs) (λ c κs. search needs) sub-place add-line returns-2)
+    (tie.spec (λ c κs. search needs) returns (λ c κs. search needs) sub-place add-line returns-2)

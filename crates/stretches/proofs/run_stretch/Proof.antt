@@ -42,7 +42,7 @@ use Rattle.stretches.proofs.run_stretch.Tie as tie
 abbrev Inv-loop : tie.InvT-loop
 Inv-loop list₀ tally₀ text from first frame now₀ at₀ line₀ next₀ list tally now at line next =
     (line + (length text - at) ≤ first + (length text - from))
-    × (next ≡ ahead (readerOf frame) text at line)
+    × (next ≡ ahead (readerOf frame (now .state)) text at line)
     × (length list ≡ length list₀)
     × StretchLeads (frame .job) (lentBoth list tally) (now .entries) (stretch (limits (frame .job)) frame at line (lines (drop at text)) now) (lentBoth list₀ tally₀) (now₀ .entries)
     (stretch (limits (frame .job)) frame from first (lines (drop from text)) now₀)
@@ -51,7 +51,7 @@ abbrev μ-loop : tie.MeasureT-loop
 μ-loop list₀ tally₀ text from first frame now₀ at₀ line₀ next₀ list tally now at line next = length text - at
 
 loop-holds : tie.Need-loop-holds Inv-loop μ-loop
-loop-holds c = (omega arith, c .before .pre .1, refl, lead-start refl)
+loop-holds c = (omega arith, c .before .pre .1 .0, refl, lead-start refl)
 
 -- ---- Nothing is ahead
 
@@ -62,7 +62,7 @@ returns c =
     let j = limits (a .frame .job) in
     stretch-ended (c .passed .result) (a .frame) (lentBoth (a .list .now) (a .tally .now)) (a .progress) (λ j. stretch j (a .frame) (a .from) (a .first) (lines (drop (a .from) (a .text .now)))) (c .passed .ensures)
     (stretch-skip j (a .frame) (a .text .now) (here .at) (here .line) (here .now)
-    ∙ stretch-end j (a .frame) (a .text .now) _ _ (here .now) (ahead-nothing (readerOf (a .frame)) (a .text .now) (here .at) (here .line) (sym (here .inv .1) ∙ c .before .enum-told .given .1))) (here .inv .3)
+    ∙ stretch-end j (a .frame) (a .text .now) _ _ (here .now) (ahead-nothing (readerOf (a .frame) (here .now .state)) (a .text .now) (here .at) (here .line) (sym (here .inv .1) ∙ c .before .enum-told .given .1))) (here .inv .3)
 
 -- ---- A block is ahead
 
@@ -83,7 +83,7 @@ module _ (k : tie.After-known-told Inv-loop μ-loop) where
   now = around .loop .now
 
   abbrev reader : Reader
-  reader = readerOf frame
+  reader = readerOf frame (now .state)
 
   abbrev place : ℕ
   place = k .before .next .given .0 .0
@@ -220,7 +220,8 @@ module _ (p : tie.After-is-pattern Inv-loop μ-loop) where
   fits = omega (arith, around here .loop .inv .0, meets here .past, meets here .counted, meets here .inside, line-end began .0)
 
 carry-pattern-requires : tie.Need-carry-pattern-requires Inv-loop μ-loop
-carry-pattern-requires c κs = sym (c .before .before .before .is-pattern .ensures) ∙ c .before .before .if2 .taken
+carry-pattern-requires c κs =
+    (sym (c .before .before .before .is-pattern .ensures) ∙ c .before .before .if2 .taken, entry (here (c .before .before .before)) .pre .1 .1)
 
 same-length-5 : tie.Need-same-length-5 Inv-loop μ-loop
 same-length-5 c =
@@ -235,7 +236,8 @@ returns-5 c =
     stretch-refused (c .refused3 .result) (frame k) (lentBoth (entry k .args .list .now) (entry k .args .tally .now)) (entry k .args .progress) (whole k) (c .refused3 .ensures) (refuses p (r .carry-pattern .ensures) (c .before .before .status .given .1)) (lead k)
 
 carry-plain-requires : tie.Need-carry-plain-requires Inv-loop μ-loop
-carry-plain-requires c κs = sym (c .before .before .before .is-pattern .ensures) ∙ c .before .before .if2 .left
+carry-plain-requires c κs =
+    (sym (c .before .before .before .is-pattern .ensures) ∙ c .before .before .if2 .left, entry (here (c .before .before .before)) .pre .1 .1)
 
 same-length-6 : tie.Need-same-length-6 Inv-loop μ-loop
 same-length-6 c =
@@ -252,21 +254,22 @@ returns-6 c =
 -- ---- And on to what is ahead
 
 look-ahead-requires : tie.Need-look-ahead-requires Inv-loop μ-loop
-look-ahead-requires c κs = omega (arith, entry (here (c .before)) .pre .0, fits (c .before))
+look-ahead-requires c κs = let p = c .before .before .before in omega (arith, entry (here p) .pre .0, fits p)
 
 loop-less : tie.Need-loop-less Inv-loop μ-loop
 loop-less c =
-    let b = began (c .before .before) in
+    let b = began (c .before .before .before .before) in
     omega (arith, meets (at-block b) .past, meets (at-block b) .inside, line-end b .0, line-end b .1)
 
 loop-again : tie.Need-loop-again Inv-loop μ-loop
 loop-again c =
-    let p = c .before .before in
+    let joined = c .before .before .before in
+    let p = joined .before in
     let same = around (here p) .loop .inv .2 in (
       fits p,
-      c .look-ahead .ensures,
-      ⊎-elim (λ w. rw (w .8) (w .3 .kept .0 ∙ same)) (λ w. rw (w .8) (w .3 .kept .0 ∙ same)) (c .before .if2 .came),
-      ⊎-elim (λ w. rw (w .8, w .9, w .10) (passes p (w .3 .ensures) (w .7 .given .1))) (λ w. rw (w .8, w .9, w .10) (passes p (w .3 .ensures) (w .7 .given .1))) (c .before .if2 .came),
+      rw (c .before .reader .ensures) at (c .look-ahead .ensures),
+      ⊎-elim (λ w. rw (w .8) (w .3 .kept .0 ∙ same)) (λ w. rw (w .8) (w .3 .kept .0 ∙ same)) (joined .if2 .came),
+      ⊎-elim (λ w. rw (w .8, w .9, w .10) (passes p (w .3 .ensures) (w .7 .given .1))) (λ w. rw (w .8, w .9, w .10) (passes p (w .3 .ensures) (w .7 .given .1))) (joined .if2 .came),
     )
 
 pub run-stretch-spec : {M : Type 1} → statement M
@@ -309,6 +312,7 @@ run-stretch-spec =
     same-length-6
     returns-6
     (λ c. search needs)
+    (λ c κs. search needs)
     look-ahead-requires
     loop-less
     loop-again)

@@ -21,4 +21,5 @@ coded-kind-spec =
     (λ c. simp (c .match .keys12))
     (λ c. simp (c .match .keys13))
     (λ c. simp (c .match .keys14))
-    (λ c. let n = c .before .args .code in let r = c .match .rest in simp (ne-eqb n 26 (r .0 .0 .0 .0 .0 .0 .0 .0 .0 .0 .0 .0 .0 .1), ne-eqb n 28 (r .0 .0 .0 .0 .0 .0 .0 .0 .0 .0 .0 .0 .1), ne-eqb n 29 (r .0 .0 .0 .0 .0 .0 .0 .0 .0 .0 .0 .1), ne-eqb n 36 (r .0 .0 .0 .0 .0 .0 .0 .0 .0 .0 .1), ne-eqb n 37 (r .0 .0 .0 .0 .0 .0 .0 .0 .0 .1), ne-eqb n 50 (r .0 .0 .0 .0 .0 .0 .0 .0 .1), ne-eqb n 66 (r .0 .0 .0 .0 .0 .0 .0 .1), ne-eqb n 70 (r .0 .0 .0 .0 .0 .0 .1), ne-eqb n 72 (r .0 .0 .0 .0 .0 .1), ne-eqb n 75 (r .0 .0 .0 .0 .1), ne-eqb n 76 (r .0 .0 .0 .1), ne-eqb n 92 (r .0 .0 .1), ne-eqb n 93 (r .0 .1), ne-eqb n 98 (r .1))))
+    (λ c. simp (c .match .keys15))
+    (λ c. let n = c .before .args .code in let r = c .match .rest in simp (ne-eqb n 26 (r .0 .0 .0 .0 .0 .0 .0 .0 .0 .0 .0 .0 .0 .0 .1), ne-eqb n 28 (r .0 .0 .0 .0 .0 .0 .0 .0 .0 .0 .0 .0 .0 .1), ne-eqb n 29 (r .0 .0 .0 .0 .0 .0 .0 .0 .0 .0 .0 .0 .1), ne-eqb n 36 (r .0 .0 .0 .0 .0 .0 .0 .0 .0 .0 .0 .1), ne-eqb n 37 (r .0 .0 .0 .0 .0 .0 .0 .0 .0 .0 .1), ne-eqb n 50 (r .0 .0 .0 .0 .0 .0 .0 .0 .0 .1), ne-eqb n 66 (r .0 .0 .0 .0 .0 .0 .0 .0 .1), ne-eqb n 70 (r .0 .0 .0 .0 .0 .0 .0 .1), ne-eqb n 72 (r .0 .0 .0 .0 .0 .0 .1), ne-eqb n 73 (r .0 .0 .0 .0 .0 .1), ne-eqb n 75 (r .0 .0 .0 .0 .1), ne-eqb n 76 (r .0 .0 .0 .1), ne-eqb n 92 (r .0 .0 .1), ne-eqb n 93 (r .0 .1), ne-eqb n 98 (r .1))))

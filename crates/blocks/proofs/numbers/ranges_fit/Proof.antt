@@ -3,7 +3,7 @@ use mathlib.Core.Path.{refl}
 use mathlib.Core.Bool.{and-true}
 use mathlib.Core.List.{[], _∷_}
 use borrow.Author.Needs.{needs}
-use Rattle.aries.specs.declared.block.Kind.the-variants.{G36, G37, G50, G70, G72, G75, G76, G92, G93, Position, Lone, LetterM, Unknown, G66}
+use Rattle.aries.specs.declared.block.Kind.the-variants.{G36, G37, G50, G70, G72, G73, G75, G76, G92, G93, Position, Lone, LetterM, Unknown, G66}
 use Rattle.aries.specs.Numbers.{rangesOf}
 use Rattle.lengths.proofs.Arms.{alike}
 use Rattle.blocks.proofs.numbers.ranges_fit.Statement.{statement}
@@ -29,7 +29,7 @@ ranges-fit-spec =
     (λ c. simp (c .before .before .enum-told2 .given .1, c .whole .ensures, c .before .word-at3 .ensures, and-true))
     (λ c. simp (c .before .before .before .before .enum-told3 .given .1, c .before .before .above-zero2 .ensures, c .before .before .before .word-at4 .ensures, c .whole2 .ensures, c .before .word-at5 .ensures, and-true))
     (λ c. simp (alike rangesOf (c .before .before .before .before .before .args .kind) (G36 ∷ G37 ∷ []) refl (c .before .before .before .before .match .keys4), c .before .before .whole3 .ensures, c .before .before .before .word-at6 .ensures, c .whole4 .ensures, c .before .word-at7 .ensures, and-true))
-    (λ c. simp (alike rangesOf (c .before .before .before .before .before .args .kind) (G75 ∷ G76 ∷ []) refl (c .before .before .before .before .match .keys5), c .before .before .whole5 .ensures, c .before .before .before .word-at8 .ensures, c .whole6 .ensures, c .before .word-at9 .ensures, and-true))
+    (λ c. simp (alike rangesOf (c .before .before .before .before .before .args .kind) (G73 ∷ G75 ∷ G76 ∷ []) refl (c .before .before .before .before .match .keys5), c .before .before .whole5 .ensures, c .before .before .before .word-at8 .ensures, c .whole6 .ensures, c .before .word-at9 .ensures, and-true))
     (λ c. simp (c .before .enum-told4 .given .1, c .layout-fits .ensures))
     (λ c. simp (c .before .before .enum-told5 .given .1, c .whole7 .ensures, c .before .word-at10 .ensures, and-true))
     (λ c. simp (c .before .before .enum-told6 .given .1, c .whole8 .ensures, c .before .word-at11 .ensures, and-true))

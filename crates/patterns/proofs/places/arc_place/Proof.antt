@@ -20,9 +20,11 @@ polar-place-requires c κs = search needs
 
 returns : tie.Need-returns
 returns c =
-    let a = c .before .before in
-    (simp (toZ-ofZ (a .fits .radius), direction-is (c .before)) at (c .polar-place .ensures))
-    ∙ ap (λ (p : Point). a .args .start ⊕ p) (toward-polar (a .args .radius) (a .args .angle))
+    let a = c .before .before in (
+      (simp (toZ-ofZ (a .fits .radius), direction-is (c .before)) at (c .polar-place .ensures .0))
+          ∙ ap (λ (p : Point). a .args .start ⊕ p) (toward-polar (a .args .radius) (a .args .angle)),
+      c .polar-place .ensures .1,
+    )
 
 pub arc-place-spec : {M : Type 1} → statement M
 arc-place-spec = tie.close (tie.spec direction-of-requires polar-place-requires returns)

@@ -23,7 +23,7 @@ returns c =
     let a = c .before .before .before in
     simp (read-back w64 (c .affine .result) (c .affine .ok))
     (simp (c .before .if1 .taken)
-    ((simp (toZ-ofZ (a .fits .angle), c .before .before .turned .ensures) at (c .affine .ensures))
+    ((simp (toZ-ofZ (a .fits .angle), c .before .before .turned .ensures) at (c .affine .ensures .0))
     ∙ turn-back (a .args .angle) (turned (a .args .n) (a .args .k))))
 
 returns-2 : tie.Need-returns-2
@@ -31,7 +31,7 @@ returns-2 c =
     let a = c .before .before .before in
     simp (read-back w64 (c .affine2 .result) (c .affine2 .ok))
     (simp (c .before .if1 .left)
-    ((simp (toZ-ofZ (a .fits .angle), c .before .before .turned .ensures) at (c .affine2 .ensures))
+    ((simp (toZ-ofZ (a .fits .angle), c .before .before .turned .ensures) at (c .affine2 .ensures .0))
     ∙ turn-forward (a .args .angle) (turned (a .args .n) (a .args .k))))
 
 pub circle-angle-spec : {M : Type 1} → statement M

@@ -41,14 +41,14 @@ returns c =
     let t = c .before .before in
     let e = t .before .before in
     let lane-is = lane-passed (e .args .steps .y) (e .args .cursor) (along-requires t (c .before .along .lifetimes)) in
-    c .step-place .ensures ∙ ap₂ (away e) (sym lane-is) (c .before .along .ensures) ∙ ap (place e) (sym (t .if1 .taken))
+    (c .step-place .ensures .0 ∙ ap₂ (away e) (sym lane-is) (c .before .along .ensures) ∙ ap (place e) (sym (t .if1 .taken)), c .step-place .ensures .1)
 
 returns-2 : tie.Need-returns-2
 returns-2 c =
     let t = c .before .before in
     let e = t .before .before in
     let lane-is = lane-passed (e .args .steps .x) (e .args .cursor) (along-requires-2 t (c .before .along2 .lifetimes)) in
-    c .step-place2 .ensures ∙ ap₂ (away e) (c .before .along2 .ensures) (sym lane-is) ∙ ap (place e) (sym (t .if1 .left))
+    (c .step-place2 .ensures .0 ∙ ap₂ (away e) (c .before .along2 .ensures) (sym lane-is) ∙ ap (place e) (sym (t .if1 .left)), c .step-place2 .ensures .1)
 
 pub grid-place-spec : {M : Type 1} → statement M
 grid-place-spec =

@@ -31,9 +31,11 @@ polar-place-requires : tie.Need-polar-place-requires
 polar-place-requires c κs = search needs
 
 returns : tie.Need-returns
-returns c =
-    simp (narrowed (c .before)) at
-    (simp (read-back w32 (c .before .narrow .result) (c .before .narrow .ok)) at (c .polar-place .ensures))
+returns c = (
+  simp (narrowed (c .before)) at
+      (simp (read-back w32 (c .before .narrow .result) (c .before .narrow .ok)) at (c .polar-place .ensures .0)),
+  c .polar-place .ensures .1,
+)
 
 pub line-place-spec : {M : Type 1} → statement M
 line-place-spec =

@@ -31,9 +31,13 @@ returns : tie.Need-returns
 returns c =
     let d = c .before in
     let a = d .before .before .before .before .before in
-    ap₂ pointAt
-    (read-back w64 (d .displaced .result) (d .displaced .ok) ∙ (simp (start-x a, cosine-back a, toZ-ofZ (a .fits .distance)) at (d .displaced .ensures)))
-    (read-back w64 (c .displaced2 .result) (c .displaced2 .ok) ∙ (simp (start-y a, sine-back a, toZ-ofZ (a .fits .distance)) at (c .displaced2 .ensures)))
+    let x-back = read-back w64 (d .displaced .result) (d .displaced .ok) in
+    let y-back = read-back w64 (c .displaced2 .result) (c .displaced2 .ok) in (
+      ap₂ pointAt
+          (x-back ∙ (simp (start-x a, cosine-back a, toZ-ofZ (a .fits .distance)) at (d .displaced .ensures .0)))
+          (y-back ∙ (simp (start-y a, sine-back a, toZ-ofZ (a .fits .distance)) at (c .displaced2 .ensures .0))),
+      record { x = rw x-back (d .displaced .ensures .1); y = rw y-back (c .displaced2 .ensures .1) },
+    )
 
 pub polar-place-spec : {M : Type 1} → statement M
 polar-place-spec = tie.close (tie.spec displaced-requires displaced-requires-2 returns)

@@ -30,9 +30,13 @@ returns : tie.Need-returns
 returns c =
     let d = c .before in
     let a = d .before .before .before .before .before in
-    ap₂ pointAt
-    (read-back w64 (d .affine .result) (d .affine .ok) ∙ (simp (start-x a, pitch-x a) at (d .affine .ensures)))
-    (read-back w64 (c .affine2 .result) (c .affine2 .ok) ∙ (simp (start-y a, pitch-y a) at (c .affine2 .ensures)))
+    let x-back = read-back w64 (d .affine .result) (d .affine .ok) in
+    let y-back = read-back w64 (c .affine2 .result) (c .affine2 .ok) in (
+      ap₂ pointAt
+          (x-back ∙ (simp (start-x a, pitch-x a) at (d .affine .ensures .0)))
+          (y-back ∙ (simp (start-y a, pitch-y a) at (c .affine2 .ensures .0))),
+      record { x = rw x-back (d .affine .ensures .1); y = rw y-back (c .affine2 .ensures .1) },
+    )
 
 pub step-place-spec : {M : Type 1} → statement M
 step-place-spec = tie.close (tie.spec affine-requires affine-requires-2 returns)

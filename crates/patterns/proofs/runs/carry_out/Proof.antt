@@ -62,7 +62,9 @@ start-requires c κs = search needs
 
 punch-series-requires : tie.Need-punch-series-requires
 punch-series-requires c κs =
-    let e = c .before .before .before in (in-reach e, is-fit (e .before .before))
+    let e = c .before .before .before in
+    let f = e .before .before in
+    (in-reach e, (is-fit f, f .before .before .pre))
 
 dropping-requires : tie.Need-dropping-requires
 dropping-requires c κs = search needs

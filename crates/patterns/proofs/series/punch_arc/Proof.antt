@@ -45,7 +45,7 @@ place-is : (c : tie.After-arc-place Inv-loop μ-loop)
 unfolding hitOffset
 place-is c =
     let t = c .before .before .before .before in
-    rw (read-back w64 (t .affine .result) (t .affine .ok), t .affine .ensures) at (c .arc-place .ensures)
+    rw (read-back w64 (t .affine .result) (t .affine .ok), t .affine .ensures .0) at (c .arc-place .ensures .0)
 
 loop-holds : tie.Need-loop-holds Inv-loop μ-loop
 loop-holds c =

@@ -45,7 +45,7 @@ place-is : (c : tie.After-arc-place Inv-loop μ-loop)
 unfolding hitOffset
 place-is c =
     let t = c .before .before .before .before in
-    rw (read-back w64 (t .circle-angle .result) (t .circle-angle .ok), t .circle-angle .ensures) at (c .arc-place .ensures)
+    rw (read-back w64 (t .circle-angle .result) (t .circle-angle .ok), t .circle-angle .ensures) at (c .arc-place .ensures .0)
 
 loop-holds : tie.Need-loop-holds Inv-loop μ-loop
 loop-holds c =

@@ -70,7 +70,7 @@ place-is c =
     let last = l .before .before .lane-end in
     let cursor = c .before .next .result in
     let m = ap (λ (n : ℕ). passed n cursor) (sym (last .ensures)) ∙ ap (passed (last .result)) (next-is (c .before)) ∙ passed-at (last .result) (suc (l .loop .k)) in
-    c .grid-place .ensures ∙ ap (λ (n : ℕ). a .start ⊕ gridOffset (a .vertical) (a .pitch) (a .steps) n) m
+    c .grid-place .ensures .0 ∙ ap (λ (n : ℕ). a .start ⊕ gridOffset (a .vertical) (a .pitch) (a .steps) n) m
 
 loop-holds : tie.Need-loop-holds Inv-loop μ-loop
 loop-holds c =

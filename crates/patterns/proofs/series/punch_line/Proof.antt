@@ -43,7 +43,7 @@ place-is : (c : tie.After-line-place Inv-loop μ-loop)
 place-is c =
     let l = c .before .before in
     let s = line (entry l) in
-    (rw (l .before .direction-at .ensures) at (c .line-place .ensures)) ∙ ap (λ (q : Point). s .start ⊕ q) (offset-line _ _ (s .count) (l .loop .k))
+    (rw (l .before .direction-at .ensures) at (c .line-place .ensures .0)) ∙ ap (λ (q : Point). s .start ⊕ q) (offset-line _ _ (s .count) (l .loop .k))
 
 loop-holds : tie.Need-loop-holds Inv-loop μ-loop
 loop-holds c =
@@ -52,7 +52,7 @@ loop-holds c =
 line-place-requires : tie.Need-line-place-requires Inv-loop μ-loop
 line-place-requires c κs =
     let e = entry (c .before) in
-    simp (toZ-ofZ (e .fits .pitch)) (nearer (c .before .loop .k + 1) (e .args .count) (e .args .pitch) (omega arith) (e .pre))
+    simp (toZ-ofZ (e .fits .pitch)) (nearer (c .before .loop .k + 1) (e .args .count) (e .args .pitch) (omega arith) (e .pre .0))
 
 returns : tie.Need-returns Inv-loop μ-loop
 unfolding hitCount

@@ -15,7 +15,7 @@ use Rattle.patterns.proofs.series.punch_next.Tie as tie
 
 -- the function's entry, seen from the hit
 abbrev entry : tie.After-hit → tie.Start
-entry c = c .before .before .before
+entry c = c .before .before
 
 abbrev point : tie.After-hit → Point
 point c = pointOf (entry c .args .place)

@@ -11,7 +11,8 @@ punch-line-requires : tie.Need-punch-line-requires
 unfolding reachIsNear
 punch-line-requires c κs =
     let p = c .before .before in
-    simp (read-back w32 (p .pattern .given .0 .0) (c .before .known-told .given .0 .1)) (sym (ap reachIsNear (p .pattern .given .1)) ∙ p .before .before .pre .0)
+    let pre = p .before .before .pre in
+    (simp (read-back w32 (p .pattern .given .0 .0) (c .before .known-told .given .0 .1)) (sym (ap reachIsNear (p .pattern .given .1)) ∙ pre .0), pre .1 .1)
 
 returns : tie.Need-returns
 returns c =
@@ -45,7 +46,8 @@ punch-shear-requires : tie.Need-punch-shear-requires
 unfolding shearIsFit
 punch-shear-requires c κs =
     let p = c .before .before in
-    sym (ap shearIsFit (p .pattern5 .given .1)) ∙ p .before .before .pre .1
+    let pre = p .before .before .pre in
+    (sym (ap shearIsFit (p .pattern5 .given .1)) ∙ pre .1 .0, pre .1 .1)
 
 returns-5 : tie.Need-returns-5
 returns-5 c =

@@ -60,7 +60,7 @@ place-is : (c : tie.After-place Inv-loop μ-loop) (shear : Shear) → isFit shea
 unfolding hitOffset
 place-is c shear fit e =
     let l = head c in
-    c .place .ensures ∙ ap (λ (cut : Cut). entry l .args .start ⊕ cutOffset cut (l .loop .k)) e
+    c .place .ensures .0 ∙ ap (λ (cut : Cut). entry l .args .start ⊕ cutOffset cut (l .loop .k)) e
     ∙ ap (λ (p : Point). entry l .args .start ⊕ p) (offset-is (entry l .args .angle) shear fit (l .loop .k))
 
 -- how many there are
@@ -84,7 +84,7 @@ place-requires c κs =
     let l = c .before in
     let s = entry l in
     rw (l .before .prepare .ensures)
-    (cut-bounded (s .args .shear) (length-fits s) (across-fits s) (compensation-fits s) (s .pre) (s .args .angle) (l .loop .k) (omega (arith, c .loop-test .taken, steps-are l)))
+    (cut-bounded (s .args .shear) (length-fits s) (across-fits s) (compensation-fits s) (s .pre .0) (s .args .angle) (l .loop .k) (omega (arith, c .loop-test .taken, steps-are l)))
 
 punch-next-requires : tie.Need-punch-next-requires Inv-loop μ-loop
 punch-next-requires c κs = search needs
@@ -99,7 +99,7 @@ returns c =
     let l = head p in
     let s = entry l in
     let made = l .before .prepare .ensures in
-    under-refused (edge l (s .args .shear)) (l .loop .inv .1 (s .args .shear) (s .pre) made) (p .before .loop-test .taken) (place-is p (s .args .shear) (s .pre) made)
+    under-refused (edge l (s .args .shear)) (l .loop .inv .1 (s .args .shear) (s .pre .0) made) (p .before .loop-test .taken) (place-is p (s .args .shear) (s .pre .0) made)
     (h .punch-next .result) (h .punch-next .ensures) (c .if1 .taken) (count-is l)
 
 add-k : tie.Need-add-k Inv-loop μ-loop
@@ -127,7 +127,7 @@ returns-2 : tie.Need-returns-2 Inv-loop μ-loop
 returns-2 c =
     let l = c .before in
     let s = entry l in
-    let under = l .loop .inv .1 (s .args .shear) (s .pre) (l .before .prepare .ensures) in
+    let under = l .loop .inv .1 (s .args .shear) (s .pre .0) (l .before .prepare .ensures) in
     under-end (edge l (s .args .shear)) (record { number = 0; current = s .args .start; entries = l .loop .made .entries }) under (c .loop-test .left) (count-is l) refl (λ g. refl)
 
 pub punch-shear-spec : {M : Type 1} → statement M

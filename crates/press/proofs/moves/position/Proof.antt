@@ -36,7 +36,7 @@ with-state-requires : tie.Need-with-state-requires
 with-state-requires c κs = search needs
 
 punch-requires : tie.Need-punch-requires
-punch-requires c κs = search needs
+punch-requires c κs = let d = c .before in (before-punch d .pre, d .before .before .before .target .ensures .1)
 
 same-length : tie.Need-same-length
 same-length c = search needs
@@ -52,7 +52,7 @@ returns c =
     let d = c .before .before .before in
     let a = before-punch d .args in
     rw (punches (limits (a .frame .job)) (a .frame) (a .line) (a .axes) (a .tool) (a .progress))
-    (rw (d .before .before .before .target .ensures, ready-is d) at (c .before .punch .ensures))
+    (rw (d .before .before .before .target .ensures .0, ready-is d) at (c .before .punch .ensures))
 
 pub position-spec : {M : Type 1} → statement M
 position-spec =

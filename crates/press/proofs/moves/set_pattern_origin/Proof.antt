@@ -22,7 +22,7 @@ origin c = target (entry c .args .frame) (entry c .args .progress .state) (entry
 
 -- the test, of the point itself
 located-is : (c : tie.After-located) → c .located .result ≡ located (origin c)
-located-is c = c .located .ensures ∙ ap located (c .before .target .ensures)
+located-is c = c .located .ensures ∙ ap located (c .before .target .ensures .0)
 
 is-located : (c : tie.After-located2) → (near (origin (c .before .before)) ≡ true) × (c .located2 .given .0 .0 ≡ origin (c .before .before))
 is-located c = located-at (origin (c .before .before)) (c .located2 .given .0 .0) (sym (c .located2 .given .1) ∙ located-is (c .before .before))

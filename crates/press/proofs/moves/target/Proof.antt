@@ -35,16 +35,21 @@ x-is : (c : tie.After-axis-target) → toZ w64 (ofZ w64 (c .axis-target .result)
 x-is c =
     let a = c .before .before .before .before .before .before .before in
     let e : toZ w64 (ofZ w64 (c .axis-target .result)) ≡ c .axis-target .result = search needs in
-    e ∙ (simp (origin-x-back a, current-x-back a) at (c .axis-target .ensures))
+    e ∙ (simp (origin-x-back a, current-x-back a) at (c .axis-target .ensures .0))
 
 y-is : (c : tie.After-axis-target2) → toZ w64 (ofZ w64 (c .axis-target2 .result)) ≡ named (c .before .before .before .before .before .before .before .before) .y
 y-is c =
     let a = c .before .before .before .before .before .before .before .before in
     let e : toZ w64 (ofZ w64 (c .axis-target2 .result)) ≡ c .axis-target2 .result = search needs in
-    e ∙ (simp (origin-y-back a, current-y-back a) at (c .axis-target2 .ensures))
+    e ∙ (simp (origin-y-back a, current-y-back a) at (c .axis-target2 .ensures .0))
 
 returns : tie.Need-returns
-returns c = ap₂ pointAt (x-is (c .before)) (y-is c)
+returns c =
+    let x-back : toZ w64 (ofZ w64 (c .before .axis-target .result)) ≡ c .before .axis-target .result = search needs in
+    let y-back : toZ w64 (ofZ w64 (c .axis-target2 .result)) ≡ c .axis-target2 .result = search needs in (
+      ap₂ pointAt (x-is (c .before)) (y-is c),
+      record { x = simp x-back (c .before .axis-target .ensures .1); y = simp y-back (c .axis-target2 .ensures .1) },
+    )
 
 pub target-spec : {M : Type 1} → statement M
 target-spec = tie.close (tie.spec axis-target-requires axis-target-requires-2 returns)

@@ -1,5 +1,5 @@
 -- Past blank lines the next block is refused, or handed on once it has begun.
-use mathlib.Core.Path.{_≡_, refl, sym, ap, _∙_}
+use mathlib.Core.Path.{_≡_, refl, sym, ap, subst, _∙_}
 use mathlib.Core.Bool.{true, not, _||_}
 use mathlib.Core.List.{List}
 use Prim.Native.Nat.{ℕ, _+_, _-_, _<_, _≤_}
@@ -11,10 +11,12 @@ use lib.ListN.{length, getD}
 use Rattle.aries.specs.declared.block.Decoded.{Decoded}
 use Rattle.aries.specs.declared.macros.Macros.{Macros}
 use Rattle.aries.specs.declared.reader.Reader.{Reader}
+use Rattle.aries.specs.declared.state.Frame.{Frame}
 use Rattle.aries.specs.declared.state.Progress.{Progress}
 use Rattle.aries.specs.Reader.{readerOf}
 use Rattle.aries.specs.Judging.{limits, mostBlocks}
 use Rattle.aries.specs.Setup.{ordinaryFrame}
+use Rattle.aries.specs.Steady.{GivenNear}
 use Rattle.aries.specs.Entries.{andThen}
 use Rattle.aries.specs.Text.{lineFeed}
 use Rattle.text.proofs.Lines.{blanks-inside, next-stop, line-inside, line-goes-on}
@@ -98,15 +100,15 @@ module _ (c : tie.Else2) where
 -- it is read as the frame has it
 module _ (d : tie.After-decode) where
   abbrev before-reading : tie.Else2
-  before-reading = d .before .before .before
+  before-reading = d .before .before .before .before
 
   abbrev given : tie.Start
   given = entry (skipped (block before-reading))
 
-  reads : d .before .reader .result ≡ readerOf (ordinaryFrame (given .args .setup))
-  reads = d .before .reader .ensures ∙ ap readerOf (d .before .before .frame .ensures)
+  reads : d .before .reader .result ≡ readerOf (ordinaryFrame (given .args .setup)) (given .args .progress .state)
+  reads = d .before .reader .ensures ∙ ap (λ (f : Frame). readerOf f (given .args .progress .state)) (d .before .before .before .frame .ensures)
 
-  read : {x : Decoded} → d .decode .result ≡ x → decodedAt (readerOf (ordinaryFrame (given .args .setup))) (given .args .text .now) (start (skipped (block before-reading))) ≡ x
+  read : {x : Decoded} → d .decode .result ≡ x → decodedAt (readerOf (ordinaryFrame (given .args .setup)) (given .args .progress .state)) (given .args .text .now) (start (skipped (block before-reading))) ≡ x
   read q = ap (λ (r : Reader). decodedAt r (given .args .text .now) (start (skipped (block before-reading)))) (sym reads) ∙ sym (d .decode .ensures) ∙ q
 
 returns-3 : tie.Need-returns-3
@@ -138,13 +140,14 @@ returns-4 c =
     let t = a .text .now in
     let j = limits (a .setup .job) in
     let q = read d (i .1) in
-    let x = decoded-instruction (readerOf (ordinaryFrame (a .setup))) t (start (skipped e)) (i .0 .0) (i .0 .1 .0) q .1 in
+    let x = decoded-instruction (readerOf (ordinaryFrame (a .setup)) (a .progress .state)) t (start (skipped e)) (i .0 .0) (i .0 .1 .0) q .1 in
     let p = b .pre .0 in
     let k = line-goes-on t (start (skipped e)) (inside e) (other e) in
     let w = line-inside t (start (skipped e)) (within (skipped e)) in
     turns-settled t (a .at) (a .line) (a .stage) (a .setup) (a .progress) (i .0 .1 .0) (place (skipped e)) (i .0 .0 .block) (c .start .ensures)
     (ap (λ (g : Progress). g .entries) (n .begun .ensures))
     (record { further = omega arith; inside = omega arith; numbered = omega arith })
+    (λ h. subst (λ (g : Progress). GivenNear (g .state)) (sym (n .begun .ensures)) h)
     (λ m.
     skips (skipped e) m
     ∙ block-begun j t (start (skipped e)) (place (skipped e)) (a .stage) (a .setup) m (a .progress) (inside e) (other e) (not-storing (a .stage) (b .pre .1)) (may (before-reading d)) (i .0 .0) (i .0 .1 .0) q

@@ -13,9 +13,9 @@ use Rattle.aries.specs.Runs.{Lent, lentBoth, entriesOfProgram, Ran}
 use Rattle.aries.specs.Text.{lines}
 use Rattle.aries.proofs.Runs.{ran-map}
 use Rattle.turns.specs.declared.turn.Next.{Next}
-use Rattle.turns.specs.Turns.{at, carried, blockOf, Comes}
+use Rattle.turns.specs.Turns.{at, carried, blockOf, Comes, NextNear}
 use Rattle.program.specs.Lines.{Beyond}
-use Rattle.program.proofs.Underway.{Underway, underway-start, underway-end, comes-at, turn-refused, turn-line, block-refused, block-passed}
+use Rattle.program.proofs.Underway.{Underway, underway-start, underway-end, comes-at, near-at, turn-refused, turn-line, block-refused, block-passed}
 use Rattle.program.proofs.lines.run_text.Statement.{statement}
 use Rattle.program.proofs.lines.run_text.Tie as tie
 
@@ -47,6 +47,10 @@ module _ (c : tie.After-run-turn Inv-loop μ-loop) where
   beyond : {n : Next} → c .run-turn .result .next ≡ n → Comes (Beyond (entry .args .text .now) (head .loop .at)) n
   beyond e = comes-at (entry .args .job) (handed entry) (entry .args .text .now) (head .loop .macros) (head .loop .inv) (c .run-turn .kept .0) (c .run-turn .ensures) e
 
+  -- and finds what it needs
+  near-next : {n : Next} → c .run-turn .result .next ≡ n → NextNear n (c .run-turn .result .setup) (c .run-turn .result .progress)
+  near-next e = near-at (entry .args .job) (handed entry) (entry .args .text .now) (head .loop .macros) (head .loop .inv) (c .run-turn .kept .0) (c .run-turn .ensures) e
+
 returns : tie.Need-returns Inv-loop μ-loop
 returns c =
     let n = c .before .before .before in
@@ -64,6 +68,11 @@ loop-again c =
 
 -- ---- A block that runs stored bodies
 
+run-called-requires : tie.Need-run-called-requires Inv-loop μ-loop
+run-called-requires c κs =
+    let f = c .before .before .before in
+    near-next (f .before .before .before .before .before) (f .next3 .given .1)
+
 returns-2 : tie.Need-returns-2 Inv-loop μ-loop
 returns-2 c =
     let s = c .before .before .before in
@@ -74,7 +83,7 @@ returns-2 c =
     let e = entry t in
     rw (c .refused2 .ensures)
     (block-refused (e .args .job) (handed e) (e .args .text .now) (head t .loop .macros) (head t .loop .inv) (t .run-turn .kept .0) (t .run-turn .ensures)
-    (blockOf (n .0 .0)) (n .0 .1 .0) (n .0 .1 .1 .0) (n .1) (beyond t (n .1)) refl (r .run-called .ensures (t .run-turn .result .stage) (n .0 .1 .0)) (s .status .given .1) (c .before .fresh4 .result))
+    (blockOf (n .0 .0)) (n .0 .1 .0) (n .0 .1 .1 .0) (n .1) (beyond t (n .1)) refl (r .run-called .ensures .0 (t .run-turn .result .stage) (n .0 .1 .0)) (s .status .given .1) (c .before .fresh4 .result))
 
 loop-again-2 : tie.Need-loop-again-2 Inv-loop μ-loop
 loop-again-2 c =
@@ -84,7 +93,8 @@ loop-again-2 c =
     let t = f .before .before .before .before .before in
     let e = entry t in
     block-passed (e .args .job) (handed e) (e .args .text .now) (head t .loop .macros) (head t .loop .inv) (t .run-turn .kept .0) (t .run-turn .ensures)
-    (blockOf (n .0 .0)) (n .0 .1 .0) (n .0 .1 .1 .0) (n .1) (beyond t (n .1)) refl (r .run-called .ensures (t .run-turn .result .stage) (n .0 .1 .0)) (c .before .enum-told .given .1) (r .run-called .kept .0) refl
+    (blockOf (n .0 .0)) (n .0 .1 .0) (n .0 .1 .1 .0) (n .1) (beyond t (n .1)) refl (r .run-called .ensures .0 (t .run-turn .result .stage) (n .0 .1 .0)) (c .before .enum-told .given .1) (r .run-called .kept .0) refl
+    (near-next t (n .1) .0 .0, r .run-called .ensures .1 (c .before .enum-told .given .1))
 
 -- ---- A U line
 
@@ -101,7 +111,7 @@ opened c =
     let r = t .run-turn .result in
     let text = entry t .args .text .now in
     let m = head t .loop .macros in
-    ran-map (withStore (at r m)) (λ x. refl) (openBody (limits (r .setup .job)) text (n .0 .0) (n .0 .1 .0 + 1) (n .0 .1 .1 .0) (lines (drop (n .0 .1 .0 + 1) text)) (r .setup) (withStored m (r .progress))) (c .open-body .ensures)
+    ran-map (withStore (at r m)) (λ x. refl) (openBody (limits (r .setup .job)) text (n .0 .0) (n .0 .1 .0 + 1) (n .0 .1 .1 .0) (lines (drop (n .0 .1 .0 + 1) text)) (r .setup) (withStored m (r .progress))) (c .open-body .ensures .0)
 
 returns-3 : tie.Need-returns-3 Inv-loop μ-loop
 returns-3 c =
@@ -124,6 +134,7 @@ loop-again-3 c =
     let e = entry t in
     block-passed (e .args .job) (handed e) (e .args .text .now) (head t .loop .macros) (head t .loop .inv) (t .run-turn .kept .0) (t .run-turn .ensures)
     (Block.Outside (Outside.Open (n .0 .0))) (n .0 .1 .0) (n .0 .1 .1 .0) (n .1) (beyond t (n .1)) refl (opened r) (c .before .before .enum-told2 .given .1) (r .open-body .kept .0) refl
+    (near-next t (n .1) .0, r .open-body .ensures .1 (c .before .before .enum-told2 .given .1))
 
 returns-4 : tie.Need-returns-4 Inv-loop μ-loop
 returns-4 c =
@@ -139,14 +150,14 @@ run-text-spec =
     μ-loop
     (λ c κs. search needs) (λ c κs. search needs) (λ c κs. search needs)
     (λ c. let e = c .before .before .before .before in rw (c .before .before .fresh .ensures, c .before .none .ensures, c .fresh2 .ensures) (underway-start (e .args .job) (handed e) (e .args .text .now)))
-    (λ c κs. let p = c .before .before .before in record { short = p .before .before .before .before .before .pre; inside = c .before .before .loop-test .taken; numbered = p .loop .inv .numbered })
+    (λ c κs. let p = c .before .before .before in (record { short = p .before .before .before .before .before .pre; inside = c .before .before .loop-test .taken; numbered = p .loop .inv .numbered }, p .loop .inv .near))
     (λ c. search needs) (λ c κs. search needs) (λ c κs. search needs)
     (λ c. same (c .before .before .before .before .before .before .before .before))
     returns
     (λ c. search needs)
     (λ c. let n = c .before in let b = beyond (n .before .before .before .before .before) (n .next2 .given .1) in omega arith)
     loop-again
-    (λ c. search needs) (λ c κs. search needs) (λ c. search needs) (λ c κs. search needs) (λ c κs. search needs)
+    (λ c. search needs) run-called-requires (λ c. search needs) (λ c κs. search needs) (λ c κs. search needs)
     (λ c. let r = c .before .before .before .before .before .before in r .run-called .kept .0 ∙ same (r .before .before .before .before .before .before .before .before .before))
     returns-2
     (λ c. search needs)
@@ -154,7 +165,7 @@ run-text-spec =
     loop-again-2
     (λ c. search needs)
     (λ c. let f = c .before in let b = beyond (f .before .before .before .before .before) (f .next4 .given .1) in omega (arith, entry (f .before .before .before .before .before) .pre))
-    (λ c κs. let f = c .before .before .before in let b = beyond (f .before .before .before .before .before) (f .next4 .given .1) in omega (arith, entry (f .before .before .before .before .before) .pre))
+    (λ c κs. let f = c .before .before .before in let t = f .before .before .before .before .before in let b = beyond t (f .next4 .given .1) in (omega (arith, entry t .pre), near-next t (f .next4 .given .1)))
     (λ c. search needs) (λ c κs. search needs) (λ c κs. search needs)
     (λ c. let r = c .before .before .before .before .before .before in r .open-body .kept .0 ∙ same (r .before .before .before .before .before .before .before .before .before))
     returns-3

@@ -19,7 +19,7 @@ affine-requires c κs = search needs
 returns : tie.Need-returns
 returns c =
     let s = c .before .before .before in
-    read-back w64 (c .affine .result) (c .affine .ok) ∙ (simp (length-back s, compensation-back s) at (c .affine .ensures))
+    read-back w64 (c .affine .result) (c .affine .ok) ∙ (simp (length-back s, compensation-back s) at (c .affine .ensures .0))
 
 pub cut-length-spec : {M : Type 1} → statement M
 cut-length-spec = tie.close (tie.spec affine-requires returns)

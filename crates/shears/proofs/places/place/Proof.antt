@@ -2,13 +2,14 @@
 use mathlib.Core.Path.{_≡_, ap, ap₂, _∙_}
 use Prim.Native.Nat.{_*_, _≤_}
 use native.Mathlib.Nat.{le-trans, div-le-of-le-mul}
-use lib.Dec.{lit<}
+use lib.Dec.{lit<, lit≤}
 use lib.IntN.{ℤ, pos, negℤ, natAbs, _+ℤ_, _-ℤ_, _*ℤ_}
 use mir.Syntax.{w32, w64}
 use mir.Val.{SFits, toZ, ofZ}
 use mir.Facts.{toZ-ofZ}
 use borrow.Author.Needs.{needs}
-use Rattle.signed.proofs.Integers.{read-back, fits-abs, zero-minus, abs-neg, mul-neg, quotient-rest, quotient-size, rest-small}
+use Rattle.signed.specs.Signed.{wideLimit}
+use Rattle.signed.proofs.Integers.{read-back, fits-abs, abs-word, abs-add, zero-minus, abs-neg, mul-neg, quotient-rest, quotient-size, rest-small}
 use Rattle.sine.specs.Series.{one}
 use Rattle.sine.specs.Sine.{rounded}
 use Rattle.aries.specs.Moves.{pointAt}
@@ -24,6 +25,12 @@ module _ (c : tie.Start) where
 
   y-back : toZ w32 (ofZ w32 (c .args .start .y)) ≡ c .args .start .y
   y-back = search needs
+
+  x-fits : SFits w32 (c .args .start .x)
+  x-fits = search needs
+
+  y-fits : SFits w32 (c .args .start .y)
+  y-fits = search needs
 
   cosine-back : toZ w32 (ofZ w32 (c .args .cut .direction .cosine)) ≡ c .args .cut .direction .cosine
   cosine-back = search needs
@@ -102,11 +109,15 @@ offset-requires-2 c κs =
     let s = entry (c .before) in
     simp (cosine-back s, sine-back s, c .before .along .ensures) (s .pre .some, (way-reduced s, (s .pre .across, (s .pre .sine, s .pre .cosine))))
 
+-- the size of a place, by that of the offset
+place-small : (a z : ℤ) → natAbs a ≤ 2147483648 → natAbs z ≤ 9000000000 → natAbs (a +ℤ z) ≤ wideLimit
+place-small a z h k = le-trans (abs-add a z 2147483648 9000000000 h k) (lit≤ tt)
+
 moved-requires : tie.Need-moved-requires
-moved-requires c κs = search needs
+moved-requires c κs = let x = c .before in rw (read-back w64 (x .offset .result) (x .offset .ok)) (le-trans (x .offset .ensures .1) (lit≤ tt))
 
 moved-requires-2 : tie.Need-moved-requires-2
-moved-requires-2 c κs = search needs
+moved-requires-2 c κs = let y = c .before in rw (read-back w64 (y .offset2 .result) (y .offset2 .ok)) (le-trans (y .offset2 .ensures .1) (lit≤ tt))
 
 returns : tie.Need-returns
 returns c =
@@ -114,11 +125,14 @@ returns c =
     let y = m .before in
     let x = y .before in
     let s = entry (x .before) in
-    ap₂ pointAt
-    (read-back w64 (m .moved .result) (m .moved .ok) ∙ m .moved .ensures
-    ∙ ap₂ _+ℤ_ (x-back s) (read-back w64 (x .offset .result) (x .offset .ok) ∙ x-is x))
-    (read-back w64 (c .moved2 .result) (c .moved2 .ok) ∙ c .moved2 .ensures
-    ∙ ap₂ _+ℤ_ (y-back s) (read-back w64 (y .offset2 .result) (y .offset2 .ok) ∙ y-is y))
+    let x-moved = read-back w64 (m .moved .result) (m .moved .ok) ∙ m .moved .ensures ∙ ap₂ _+ℤ_ (x-back s) (read-back w64 (x .offset .result) (x .offset .ok)) in
+    let y-moved = read-back w64 (c .moved2 .result) (c .moved2 .ok) ∙ c .moved2 .ensures ∙ ap₂ _+ℤ_ (y-back s) (read-back w64 (y .offset2 .result) (y .offset2 .ok)) in (
+      ap₂ pointAt (x-moved ∙ ap (λ (z : ℤ). s .args .start .x +ℤ z) (x-is x)) (y-moved ∙ ap (λ (z : ℤ). s .args .start .y +ℤ z) (y-is y)),
+      record {
+        x = rw x-moved (place-small (s .args .start .x) (x .offset .result) (abs-word (s .args .start .x) (x-fits s)) (x .offset .ensures .1));
+        y = rw y-moved (place-small (s .args .start .y) (y .offset2 .result) (abs-word (s .args .start .y) (y-fits s)) (y .offset2 .ensures .1));
+      },
+    )
 
 pub place-spec : {M : Type 1} → statement M
 place-spec =

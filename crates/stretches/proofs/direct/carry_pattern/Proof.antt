@@ -11,7 +11,7 @@ returns c =
     let s = o .before .before in
     let a = s .args in
     rw (c .count-hits .ensures)
-    (hits-counted (limits (a .frame .job)) (a .frame) (a .line) (a .progress) (a .tally .now) (a .block) (o .pattern-outcome .ensures) (rw (s .pre)))
+    (hits-counted (limits (a .frame .job)) (a .frame) (a .line) (a .progress) (a .tally .now) (a .block) (o .pattern-outcome .ensures) (rw (s .pre .0)))
 
 pub carry-pattern-spec : {M : Type 1} → statement M
 carry-pattern-spec = tie.close (tie.spec (λ c κs. search needs) (λ c κs. search needs) (λ c. search needs) returns)

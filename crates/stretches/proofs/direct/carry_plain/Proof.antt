@@ -17,10 +17,10 @@ returns c =
     let j = limits (a .frame .job) in
     let ran = o .plain-outcome .ensures in
     rw (c .keeping .ensures)
-    (plain-kept j (a .frame) (a .line) (a .progress) {left = o .plain-outcome .result .progress} (a .block) (s .pre)
+    (plain-kept j (a .frame) (a .line) (a .progress) {left = o .plain-outcome .result .progress} (a .block) (s .pre .0)
     (⊎-elim
-    (λ w. rw (w .3 ∙ w .2 .ensures) (hits-counted j (a .frame) (a .line) (a .progress) (a .tally .now) (a .block) ran (rw (s .pre) (sym (p .is-punch .ensures) ∙ w .0 .taken))))
-    (λ w. rw (w .1) (nothing-counted j (a .frame) (a .line) (a .progress) (a .tally .now) (a .block) ran (rw (s .pre) (sym (p .is-punch .ensures) ∙ w .0 .left))))
+    (λ w. rw (w .3 ∙ w .2 .ensures) (hits-counted j (a .frame) (a .line) (a .progress) (a .tally .now) (a .block) ran (rw (s .pre .0) (sym (p .is-punch .ensures) ∙ w .0 .taken))))
+    (λ w. rw (w .1) (nothing-counted j (a .frame) (a .line) (a .progress) (a .tally .now) (a .block) ran (rw (s .pre .0) (sym (p .is-punch .ensures) ∙ w .0 .left))))
     (c .before .if1 .came)))
 
 pub carry-plain-spec : {M : Type 1} → statement M

@@ -18,7 +18,7 @@ returns-2 c = rw (c .before .before .before .before .block2 .given .1) (c .befor
 returns-3 : tie.Need-returns-3
 returns-3 c =
     let s = c .before .before in
-    absurd (true≢false (sym (s .pre) ∙ other-plain (s .args .block) (c .before .match .keys3)))
+    absurd (true≢false (sym (s .pre .0) ∙ other-plain (s .args .block) (c .before .match .keys3)))
 
 pub pattern-outcome-spec : {M : Type 1} → statement M
 pattern-outcome-spec =

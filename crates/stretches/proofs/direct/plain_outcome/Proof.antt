@@ -51,15 +51,15 @@ unfolding carryDirect
 returns-7 c =
     let s = c .before .before in
     let a = s .args in
-    rw (idle-left (a .block) (s .pre) (c .before .match .keys7)) (carried-no-entry (a .frame) (λ j. carryDirect j (a .frame) (a .line) Idle) (c .passed3 .ensures) refl refl)
+    rw (idle-left (a .block) (s .pre .0) (c .before .match .keys7)) (carried-no-entry (a .frame) (λ j. carryDirect j (a .frame) (a .line) Idle) (c .passed3 .ensures) refl refl)
 
 pub plain-outcome-spec : {M : Type 1} → statement M
 plain-outcome-spec =
     tie.close
     (tie.spec
     -- what is asked on the way, block by block
-    (search needs) (search needs)
-    (search needs) (search needs)
+    (search needs) (λ c κs. search needs)
+    (search needs) (λ c κs. search needs)
     (search needs) (search needs)
     (search needs) (search needs)
     (search needs) (search needs) (search needs) (search needs)

@@ -31,7 +31,7 @@ returns c =
     let f = c .before .before in
     let a = f .before .before .before .before .before .args in
     leaves-line (a .end) (a .line) (a .setup) (a .progress) (λ j t m. settled (program Running (a .setup) m (a .progress)) (setOrigin j (a .line) (a .sheet) (a .offset) (a .setup)))
-    (rw (c .before .with-origin .ensures) at (c .running .ensures)) refl refl
+    (rw (c .before .with-origin .ensures) at (c .running .ensures)) refl refl (λ n. (found f .0, n .1))
     (λ t m. origin-near (program Running (a .setup) m (a .progress)) (a .line) (a .sheet) (a .offset) (found f .0))
 
 returns-2 : tie.Need-returns-2

@@ -25,7 +25,7 @@ returns-2 c =
     let a = c .before .before .before .args in
     rw (c .enum-told2 .given .1)
     (leaves-line (a .end) (a .line) (a .setup) (a .progress) (λ j t m. placed j t (a .end) (a .line) (Block.Outside Outside.End) (program Running (a .setup) m (a .progress)))
-    refl refl refl (λ t m. refl))
+    refl refl refl (λ n. n) (λ t m. refl))
 
 returns-3 : tie.Need-returns-3
 unfolding placed carryOut carryOutside
@@ -37,7 +37,7 @@ returns-4 c = rw (c .before .before .outside2 .given .1) (c .set-origin2 .ensure
 
 returns-5 : tie.Need-returns-5
 unfolding placed
-returns-5 c = rw (c .before .before .outside3 .given .1, c .running2 .ensures) (record { same = λ t m. refl; entries = refl; job = refl; comes = (refl, refl) })
+returns-5 c = rw (c .before .before .outside3 .given .1, c .running2 .ensures) (record { same = λ t m. refl; entries = refl; job = refl; comes = (refl, refl); near = λ n. n })
 
 returns-6 : tie.Need-returns-6
 unfolding placed carryOut carryOutside
@@ -49,7 +49,7 @@ returns-6 c =
 
 returns-7 : tie.Need-returns-7
 unfolding placed
-returns-7 c = rw (c .before .before .outside4 .given .1, c .running4 .ensures) (record { same = λ t m. refl; entries = refl; job = refl; comes = (refl, refl) })
+returns-7 c = rw (c .before .before .outside4 .given .1, c .running4 .ensures) (record { same = λ t m. refl; entries = refl; job = refl; comes = (refl, refl); near = λ n. (n, tt) })
 
 pub settle-spec : {M : Type 1} → statement M
 settle-spec =

@@ -5,19 +5,19 @@ use mathlib.Core.Logic.{⊎-elim}
 use borrow.Author.Needs.{needs}
 use mir.Syntax.{w32}
 use mir.Val.{toZ, ofZ}
 use Rattle.aries.specs.Moves.{pointAt}
-use Rattle.turns.proofs.origins.offset_by.Statement.{statement}
-use Rattle.turns.proofs.origins.offset_by.Tie as tie
+use Rattle.aries.proofs.block.Axes.over.Statement.{statement}
+use Rattle.aries.proofs.block.Axes.over.Tie as tie
 
 module _ (c : tie.Start) where
-  x-back : toZ w32 (ofZ w32 (c .args .axes .x .value)) ≡ c .args .axes .x .value
+  x-back : toZ w32 (ofZ w32 (c .args .self .x .value)) ≡ c .args .self .x .value
   x-back = search needs
 
-  y-back : toZ w32 (ofZ w32 (c .args .axes .y .value)) ≡ c .args .axes .y .value
+  y-back : toZ w32 (ofZ w32 (c .args .self .y .value)) ≡ c .args .self .y .value
   y-back = search needs
 
--- the offset once X is set
-x-set : (c : tie.Joined1) → let a = c .before .before .before .args in c .if1 .offset ≡ pointAt (cond (a .axes .x .written) (a .axes .x .value) (a .before .x)) (a .before .y)
+-- the point once X is set
+x-set : (c : tie.Joined1) → let a = c .before .before .before .args in c .if1 .point ≡ pointAt (cond (a .self .x .written) (a .self .x .value) (a .before .x)) (a .before .y)
 x-set c =
     let a = c .before .before .before in
     ⊎-elim (λ u. rw (u .2, u .0 .taken, x-back a)) (λ u. rw (u .1, u .0 .left)) (c .if1 .came)
@@ -28,5 +28,5 @@ returns c = let j = c .before .before in rw (x-set j, c .before .if2 .taken) (ap
 returns-2 : tie.Need-returns-2
 returns-2 c = rw (x-set (c .before), c .if2 .left)
 
-pub offset-by-spec : {M : Type 1} → statement M
-offset-by-spec = tie.close (tie.spec returns returns-2)
+pub over-spec : {M : Type 1} → statement M
+over-spec = tie.close (tie.spec returns returns-2)
