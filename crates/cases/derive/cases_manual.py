@@ -207,6 +207,17 @@ case('manual-002-53-marking', p('M 08/G 90 X 130. Y 280. T 13/X 350./M 09/M 13/G
 case('manual-002-14-absolute-and-incremental', p('G 90 X 600. Y 300. T 1/X 400./X 300. Y 200./Y 100./X 100./G 90 X 600. Y 300./G 91 X -200./X -100. Y -100./Y -100./X -200.'),
      E(10, {5: P(10000, 10000, 1), 6: P(60000, 30000, 1), 10: P(10000, 10000, 1)}), '002 p. 14: the same five points twice, omitted axes left out')
 case('manual-002-15-tool', p('G 90 X 500. Y 400. T 2/X 300. Y 200./X 150. Y 300./X 10. Y 600. T 1/X 20. Y 400.'), E(5, {3: P(15000, 30000), 4: P(1000, 60000, 1), 5: P(2000, 40000, 1)}), '002 p. 15, T202 and T201 as T2 and T1')
+SYMMETRY = 'N 001 G 90 G 93 X 110. Y 120./U 1/N 002 X 40. Y 20. T %s/Y 70./G 28 I 55. J 0 K 2/V 1/N 003 G 73 X 600. Y 400. Q 4 W 1/N 004 G 73 Q 3 W 1/N 005 G 73 Q 2 W 1/N 006 G 91 X 300. Y 200.'
+case('manual-002-66-symmetry', p(SYMMETRY % '13', A224),
+     all_of(*(P(x, y, 13) for x, y in ((15000, 14000), (15000, 19000), (20500, 19000), (26000, 19000), (67000, 50000), (67000, 45000), (61500, 45000), (56000, 45000), (15000, 50000), (15000, 45000),
+                                       (20500, 45000), (26000, 45000), (67000, 14000), (67000, 19000), (61500, 19000), (56000, 19000), (41000, 32000)))),
+     '002 p. 66, T313 as T13: the pattern where it is stored, then by Q4, Q3 and Q2; hole A is measured from the pattern\'s reference point, (110, 120)')
+case('manual-002-66-as-printed', p(SYMMETRY % '313', A224), R(6, 4), '002 p. 66 as printed: 313 is no tool here')
+case('manual-002-68-symmetry-of-parts',
+     p('G 98 X 20. Y 30. I 250. J 200. P 1 K 1/U 60/X 10. Y 20. T 3/G 28 I 15. J 90. K 2/V 60/U 1/G 73 X 200. Y 150. Q 1 W 60/G 73 Q 2 W 60/G 73 Q 3 W 60/G 73 Q 4 W 60/V 1/G 75 W 1 Q 1'),
+     all_of(*(P(x + dx, y + dy, 3) for x, y in ((2000, 3000), (27000, 3000), (27000, 23000), (2000, 23000))
+              for dx, dys in ((1000, (2000, 3500, 5000)), (19000, (2000, 3500, 5000)), (1000, (13000, 11500, 10000)), (19000, (13000, 11500, 10000))) for dy in dys)),
+     '002 p. 68 with numbers: the pattern in a macro of 60 to 89, the four of a part in one of 1 to 59')
 case('manual-002-74-offset-then-layout', p('X 50. Y 50. T 5/G 93 X 100. Y 100./X 150. Y 150. T 6/G 98 X 200. Y 200./U 1/X 50. Y 80. T 7/V 1/W 1'), all_of(P(5000, 5000, 5), P(25000, 25000, 6), P(35000, 38000, 7)), '002 p. 74: offset and reference add up')
 case('manual-002-74-offset-in-a-macro', p('G 98 X 50. Y 100./U 1/G 93 X 80. Y 150./X 100. Y 100. T 5/V 1/W 1'), R(7, 4), '002 p. 74: G93 inside a macro; document 01 refuses it when the body runs')
 case('manual-002-75-second-layout', p('G 98 X 50. Y 100./U 1/X 50. Y 50. T 11/V 1/G 75 W 1 Q 1/G 98 X 0 Y 0/X 300. Y 50. T 21'), all_of(P(10000, 15000, 11), P(30000, 5000, 21)), '002 p. 75 without G93 in its macros: the second G98 counts from the G92 origin too')

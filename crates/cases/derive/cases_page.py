@@ -85,3 +85,10 @@ example('g76', 'G98 X50. Y50. I100. J80. P1 K2/U60/X10. Y20. T2/V60/G76 W60 Q3',
 example('copies-begin-alike', 'X10. Y10. T2/G98 X100. Y100. I50. P1/U60/X5. Y5./G91 X1. T3/V60/G75 W60 Q1/X1./G90 Y0',
         all_of(P(1000, 1000), P(10500, 10500), P(10600, 10500, 3), P(15500, 10500), P(15600, 10500, 3), P(15700, 10500, 3), P(15700, 10000, 3)),
         'each copy begins with G90 and tool 2; the last one leaves G91 and tool 3')
+example('g73', 'G93 X100. Y100./U60/G90 X10. Y20. T2/G91 X5./V60/G73 X80. Y50. Q1 W60/G73 Q2 W60/G73 Q3 W60/G73 Q4 W60/X1.',
+        all_of(P(11000, 12000), P(11500, 12000), P(17000, 12000), P(16500, 12000), P(11000, 13000), P(11500, 13000), P(17000, 13000), P(16500, 13000), P(10100, 10000)),
+        'a macro by each Q; afterwards the current point is the origin')
+example('g73-in-a-mirror', 'U60/X20. Y5. T2/V60/U61/X1. Y1. T2/G73 X30. Q2 W60/V61/G73 X50. Y0 Q2 W61/G73 Q2 W60', all_of(P(4900, 100), P(4000, 500), P(1000, 500)),
+        '50 - 1; 50 - (30 - 20), the inner mirror first; 30 - 20, X being the last one given')
+example('g73-in-copies', 'G98 X50. Y50. I100. P1/U60/X5. Y5. T2/V60/U1/G73 X80. Y0 Q1 W60/G73 Q2 W60/V1/G75 W1 Q1', all_of(P(5500, 5500), P(12500, 5500), P(15500, 5500), P(22500, 5500)),
+        'a right hand and a left hand hit in each copy')

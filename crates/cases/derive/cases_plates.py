@@ -41,15 +41,15 @@ def holes(tool, *places):
 
 
 def corners(tool, first, width, height):
-    """Four holes around a rectangle, against the clock from its lower left."""
+    """Four holes around a rectangle, against the clock from its lower left; with a width below 0 clockwise from its lower right."""
     x, y = first
     return holes(tool, (x, y), (x + width, y), (x + width, y + height), (x, y + height))
 
 
-def rows(tool, first, pitch, columns, count):
-    """Row by row from the lower left, every second one back."""
+def rows(tool, first, pitch, columns, count, way=1):
+    """Row by row from the lower left, or with way -1 from the lower right, every second one back."""
     def row(r):
-        return [(first[0] + pitch * c, first[1] + pitch * r) for c in range(columns)]
+        return [(first[0] + way * pitch * c, first[1] + pitch * r) for c in range(columns)]
     return holes(tool, *(place for r in range(count) for place in (row(r) if r % 2 == 0 else row(r)[::-1])))
 
 
@@ -129,6 +129,20 @@ DRAWINGS = {
         (260, 180), (50, 60),
         corners(5, (10, 10), 240, 160),
         tubes_of_the_rack()),
+    'rack-right': Drawing(
+        (160, 100), (100, 100),
+        corners(5, (10, 10), 140, 80),
+        rows(2, (18, 20), 12, 8, 6),
+        holes(3, (10, 50)),
+        ring(4, (135, 70), 12, 30, 30, 3),
+        slot(7, (135, 30), 2, 90, 21)),
+    'rack-left': Drawing(
+        (160, 100), (100, 100),
+        corners(5, (150, 10), -140, 80),
+        rows(2, (142, 20), 12, 8, 6, -1),
+        holes(3, (150, 50)),
+        ring(4, (25, 70), 12, 150, -30, 3),
+        slot(7, (25, 30), 2, 90, 21)),
     'deck-plate': Drawing(
         (900, 540), (40, 30),
         corners(8, (65, 50), 140, 98),

@@ -117,6 +117,7 @@ WHOLE_ENDS = {
     'u': ('U%d/X1Y1T1/V89/W89', 89, all_of(P(100, 100))),
     'w': ('U89/X1Y1T1/V89/W%d', 89, all_of(P(100, 100))),
     'q': ('G98X0Y0/U60/X1Y1T1/V60/G75W60Q%d', 4, all_of(P(100, 100))),
+    'q-of-g73': ('U60/X1Y1T1/V60/G73X9Y9W60Q%d', 4, all_of(P(800, 800))),
 }
 for word, (body, most, answer) in WHOLE_ENDS.items():
     line = 2 + body[:body.index('%')].count('/')
@@ -135,6 +136,8 @@ LIMITS = {
     'g70-y': ('G93Y{-}/G70X0Y{}', E(0), E(0)),
     'g72-x': ('X1Y1T1/G72X{}Y0', all_of(P(100, 100)), all_of(P(100, 100))),
     'g72-y': ('X1Y1T1/G72Y{}', all_of(P(100, 100)), all_of(P(100, 100))),
+    'g73-x': ('G93X{-}/U60/X0Y0T1/V60/G73X{}Y0Q2W60', all_of(P(0, 0)), all_of(P(0, 0))),
+    'g73-y': ('G93Y{-}/U60/X0Y0T1/V60/G73X0Y{}Q3W60', all_of(P(0, 0)), all_of(P(0, 0))),
     'g93-x': ('X1Y1T1/G93X{}', all_of(P(100, 100)), all_of(P(100, 100))),
     'g93-y': ('X1Y1T1/G93X0Y{}', all_of(P(100, 100)), all_of(P(100, 100))),
     'g98-x': ('X1Y1T1/G98X{}Y0', all_of(P(100, 100)), None),
@@ -207,6 +210,7 @@ mm('limit-unused-j-of-a-grid', 'X1Y1T1/G37I1P1J-10000K0', R(6, 3), '6: the pitch
 mm('limit-unused-i-and-j-of-a-grid', 'X1Y1T1/G36I9999P0J-9999K0', all_of(P(100, 100)), 'a grid of one place, its pitches within the limit')
 mm('limit-unused-d-of-a-layout', 'G98X0Y0P0K0D10000', R(6, 2), '6: the layout is one place, and nothing is copied')
 mm('limit-unused-stored-pattern', 'A1G28I10000J0K1', R(6, 2), '6: before the pattern is stored, and before 14')
+mm('limit-unused-x-of-g73', 'U60/V60/G73X10000Y0Q1W60', R(6, 4), '6: Q1 turns nothing')
 mm('limit-unused-second-of-two', 'G72X1Y10000', R(6, 2), '6: one number of two')
 
 # ---------------------------------------------------------------- checking order
@@ -229,6 +233,8 @@ at_0('order-06-before-07-after-g50', p('', M222) + '/X10000', R(6, 3), '6: a blo
 at_0('order-06-before-08', 'G92X60000Y60000/G50', R(6, 1), '6: no machine, either')
 mm('order-06-before-18', 'G66I10000J0P1Q-1T1', R(6, 2), '6: w is not above 1 mm, and P and Q differ in sign, too')
 mm('order-05-before-06-k-beside-g66', 'G66I10000J0P20K50T1', R(5, 2), '5: K is not listed for G66')
+mm('order-05-before-06-y-absent-beside-g73', 'U60/V60/G73X10000Q2W60', R(5, 4), '5: none was given for Y')
+mm('order-06-before-10', 'G73X10000Y0Q1W60', R(6, 2), '6: nothing is stored, either')
 mm('order-06-before-14', 'X10000', R(6, 2), '6: no tool is chosen, either')
 mm('order-06-before-15-position', 'G91X10000T1', R(6, 2), '6: the position would be too far, too')
 mm('order-06-before-15-reach', 'G28I10000J0K999T1', R(6, 2), '6: the reach would be too far, too')

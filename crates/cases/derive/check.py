@@ -6,7 +6,7 @@
 import os
 import sys
 from table import CASES, R, E, STOP, OPTIONAL
-import cases_text, cases_press, cases_shear, cases_stops, cases_tally, cases_limits, cases_manual, cases_page, cases_plates, cases_settings
+import cases_text, cases_press, cases_shear, cases_stops, cases_tally, cases_mirrors, cases_limits, cases_manual, cases_page, cases_plates, cases_settings
 from expander import expand, printed, tally
 
 
@@ -41,12 +41,12 @@ for name, setting, length, text, hand, reason in CASES:
 print(len(CASES), 'cases,', bad, 'differ')
 
 GROUPS = ['plates', 'page', 'tempting', 'text', 'words', 'letters', 'codes', 'two', 'ranges', 'kinds', 'settings', 'moves', 'origin', 'patterns', 'memory', 'sine', 'shear', 'stops', 'tally', 'macros',
-          'layouts', 'lists', 'characters', 'calls', 'blocks', 'reach', 'refusal', 'order', 'decision', 'manual', 'samples']
+          'layouts', 'mirrors', 'lists', 'characters', 'calls', 'blocks', 'reach', 'refusal', 'order', 'decision', 'manual', 'samples']
 HEADS = {
     'plates': 'The plates of document 01', 'page': 'The examples of docs/PUNCH-CODE.md', 'tempting': 'Four readings that tempt', 'text': 'Bytes, lines, spaces', 'words': 'The form of a word (4)',
     'letters': 'The letters of each block (5)', 'codes': 'Codes (5)', 'two': 'Two G words (5)', 'ranges': 'Range ends and one beyond (6, 16)',
     'kinds': 'Signs and points on whole numbers (6)', 'settings': 'The decimal point setting (6, and what a number means)', 'moves': 'Moving and punching', 'origin': 'The waiting origin', 'patterns': 'Patterns',
-    'memory': 'Pattern memory', 'sine': 'Sines', 'shear': 'Shear proof, G66 (18)', 'stops': 'Stops, M00 and M01', 'tally': 'The tally of hits by tool', 'macros': 'Macros', 'layouts': 'Layouts', 'lists': 'Lists (17)', 'characters': 'Characters of bodies (12)',
+    'memory': 'Pattern memory', 'sine': 'Sines', 'shear': 'Shear proof, G66 (18)', 'stops': 'Stops, M00 and M01', 'tally': 'The tally of hits by tool', 'macros': 'Macros', 'layouts': 'Layouts', 'mirrors': 'Left and right handed racks, G73', 'lists': 'Lists (17)', 'characters': 'Characters of bodies (12)',
     'calls': 'Open calls (11)', 'blocks': 'Blocks carried out (3)', 'reach': 'Reach (15)', 'refusal': 'Each refusal at the top, in a body, in a first run, in a copy',
     'order': 'Two faults in one block', 'decision': 'Decisions', 'manual': 'Examples of the manuals',
     'samples': 'The sample plates',
@@ -142,6 +142,8 @@ def write(folder):
                     f.write('In the last column w is the size of P, L is I + 2 x D, and the travel is L less w. Along and across are from the start, in hundredths.\n\n')
                 if g == 'tally':
                     f.write('Behind the entries stands the line of each tool that has hits: tool, hits, first index, last index.\n\n')
+                if g == 'mirrors':
+                    f.write('A point as written is one of the macro before it is mirrored.\n\n')
                 if g == 'order':
                     f.write(PAIRS)
                 if g == 'decision':
@@ -171,8 +173,8 @@ In the tables a slash stands for a line feed; a long text, or one with other byt
 blank ones too. The setting is 1 and the list has 16,384 numbers, so places for 4,096 entries, unless something else stands
 before the answer. An answer is a refusal's number and line, or the entries: X, Y, tool, mode. A hit has mode P or N, a stop
 S, an optional stop O. In the last column a number before a colon is that refusal's; 000, 001 and 002 are the manuals.
-Document 01 is the specification, to which document 02 adds the decimal point setting, G66, stops and the tally; the rules
-are in docs/PUNCH-CODE.md, where the cases named page-.. are worked out step by step.
+Document 01 is the specification, to which document 02 adds the decimal point setting, G66, stops, the tally and G73; the
+rules are in docs/PUNCH-CODE.md, where the cases named page-.. are worked out step by step.
 '''
 
 

@@ -1,5 +1,5 @@
-"""An expander of ARIES punch code, written from document 01, and from document 02 for the decimal point setting, G66, stops
-and the tally of hits by tool.
+"""An expander of ARIES punch code, written from document 01, and from document 02 for the decimal point setting, G66, stops,
+the tally of hits by tool and G73.
 
 expand(text, length, setting) answers (0, entries) or (number, line). An entry is a hit or a stop: X, Y, tool, mode.
 tally(entries) is taken from the finished list. Whole numbers throughout; the sine tables come from fractions. Slow and
@@ -110,15 +110,17 @@ STOPS = {0: (0, 0, 0, 'S'), 1: (0, 0, 0, 'O')}     # the entries that M00 and M0
 FAR = 999999
 
 # the letters that are lengths or angles, by code; None is a position
-LENGTHS = {26: 'IJ', 28: 'IJ', 29: 'IJP', 36: 'IJ', 37: 'IJ', 66: 'IJPQD', 70: 'XY', 72: 'XY', 92: 'XY', 93: 'XY', 98: 'XYIJD', None: 'XY'}
+LENGTHS = {26: 'IJ', 28: 'IJ', 29: 'IJP', 36: 'IJ', 37: 'IJ', 66: 'IJPQD', 70: 'XY', 72: 'XY', 73: 'XY', 92: 'XY', 93: 'XY', 98: 'XYIJD', None: 'XY'}
 
 
 class Block:
     pass
 
 
-def block_of(words, number, setting):
-    """Rules 5 and 6: which block it is, and whether its numbers fit. Its lengths and angles are in hundredths then."""
+def block_of(words, number, setting, given):
+    """Rules 5 and 6: which block it is, and whether its numbers fit. Its lengths and angles are in hundredths then.
+
+    given: the letters that a G73 may leave out, since one has given them before."""
 
     def unlisted():
         raise Refused(5, number)
@@ -194,6 +196,9 @@ def block_of(words, number, setting):
         elif c in (72, 93):
             if not (have and have <= {'X', 'Y'}):
                 unlisted()
+        elif c == 73:
+            if not ({'W', 'Q'} <= have <= set('XYWQ') <= have | given):
+                unlisted()
         elif c in (75, 76):
             if have != {'W', 'Q'}:
                 unlisted()
@@ -232,7 +237,7 @@ def block_of(words, number, setting):
     for letter in 'AB':
         whole(letter, 1, 5)
     c = b.code
-    if c in (75, 76):
+    if c in (73, 75, 76):
         whole('Q', 1, 4)
     if c in (28, 29):
         whole('K', 1, 999)
@@ -269,11 +274,13 @@ class State:
         self.nibbling = False
         self.incremental = False
         self.memory = {}
+        self.given = {}     # X and Y as the last G73 that had the letter gave it
 
     def copy(self):
         s = State()
         s.__dict__.update(self.__dict__)
         s.memory = dict(self.memory)
+        s.given = dict(self.given)
         return s
 
 
@@ -311,6 +318,7 @@ class Expander:
         self.offset = (0, 0)
         self.layout = None
         self.bodies = {}
+        self.mirrors = []   # those in force, the outermost first
         i = 0
         while i < len(self.lines):
             if self.lines[i] == '':
@@ -329,9 +337,10 @@ class Expander:
             if self.blocks == 100000:
                 raise Refused(3, number)
             self.blocks += 1
-        if i not in self.parsed:
-            self.parsed[i] = block_of(words_of(line, number), number, self.setting)
-        return self.parsed[i]
+        given = frozenset(self.state.given)
+        if (i, given) not in self.parsed:
+            self.parsed[i, given] = block_of(words_of(line, number), number, self.setting, given)
+        return self.parsed[i, given]
 
     def top_block(self, i):
         b = self.judged(i)
@@ -448,6 +457,31 @@ class Expander:
             self.run_body(body, 1)
         self.state.origin = origin
 
+    def symmetry(self, b, calls):
+        """G73: the macro from the origin, its hits and the ends of its G70 moves mirrored; then the current point is the origin."""
+        body = self.find(b.words['W'].value, b.line)
+        if calls == 4:
+            raise Refused(11, b.line)
+        self.state.given.update((l, b.words[l].value) for l in 'XY' if l in b.words)
+        self.mirrors.append((b.words['Q'].value, self.state.given['X'], self.state.given['Y']))
+        self.to_origin()
+        self.run_body(body, calls + 1)
+        self.to_origin()
+        self.mirrors.pop()
+
+    def to_origin(self):
+        self.state.at = self.state.origin
+        self.state.waiting = None
+
+    def mirrored(self, p):
+        """Where a point of a macro comes to lie: measured from the origin, by the innermost mirror first."""
+        origin = self.state.origin
+        x, y = p[0] - origin[0], p[1] - origin[1]
+        for q, a, b in reversed(self.mirrors):
+            x = a - x if q in (2, 4) else x
+            y = b - y if q in (3, 4) else y
+        return origin[0] + x, origin[1] + y
+
     # blocks that stand at the top and in bodies
 
     def ordinary(self, b, calls):
@@ -465,6 +499,9 @@ class Expander:
             if calls == 4:
                 raise Refused(11, number)
             self.run_body(body, calls + 1)
+            return
+        if b.code == 73:
+            self.symmetry(b, calls)
             return
         if b.kind == 'B':
             n = b.words['B'].value
@@ -487,8 +524,9 @@ class Expander:
                 return
             p = self.measured(b)
             if b.code == 70:
-                self.near(p, number)
-                self.within(p, number)
+                end = self.mirrored(p)
+                self.near(end, number)
+                self.within(end, number)
             else:
                 self.hit(p, number)
             s.at = p
@@ -519,6 +557,7 @@ class Expander:
         s = self.state
         if s.tool is None:
             raise Refused(14, number)
+        p = self.mirrored(p)
         self.near(p, number)
         self.within(p, number)
         self.enter((p[0], p[1], s.tool, 'N' if s.nibbling else 'P'), number)
