@@ -4,7 +4,9 @@
     plates/check.py            each plate of this folder: its hits and stops are those of its drawing, no place is hit
                                twice with one tool, holes lie within the plate and beside its windows, no two of them
                                meet but the hits of a slot, and tools that cut an edge lie against it, the plate's
-                               from outside, a window's from inside; README.md has its tools as hitlist prints them
+                               from outside, a window's from inside; README.md has its tools as hitlist prints them;
+                               the left handed plate is the mirror of the right handed one, and their programs differ
+                               in one word
     plates/check.py LISTING..  listings that hitlist printed (- for standard input): no place twice with one tool, and the
                                lines of tools are those of the entries
 
@@ -24,6 +26,10 @@ sys.path.insert(0, os.path.join(CASES, 'derive'))
 # The diameters of the round tools and the sides of the rectangular ones along X and Y, in hundredths of a millimetre.
 DIAMETERS = {2: 700, 3: 300, 4: 350, 5: 450, 6: 660, 7: 400, 8: 550, 9: 500, 14: 2800}
 SIDES = {10: (5000, 500), 11: (500, 5000)}
+
+# The left handed plate of each right handed one, and the words in which their programs differ.
+LEFT_OF = {'rack-right': 'rack-left'}
+HANDS = (b'Q1', b'Q2')
 
 
 def is_stop(entry):
@@ -111,6 +117,23 @@ def least_metal(drawing):
                for i, a in enumerate(holes) for b in holes[:i] if 'P' in (a[3], b[3]))
 
 
+def mirrored(drawing):
+    """The entries of a drawing with right and left exchanged: X measured from the plate's right edge."""
+    width = in_hundredths(drawing.size)[0]
+    return [entry if is_stop(entry) else (width - entry[0],) + entry[1:] for entry in drawing.drawn]
+
+
+def not_a_pair(right, left, drawings):
+    """What is wrong with a right handed plate and a left handed one."""
+    said = []
+    if drawings[left].size != drawings[right].size or drawings[left].drawn != mirrored(drawings[right]):
+        said.append('%s is not drawn as the mirror of %s' % (left, right))
+    texts = [open(os.path.join(HOME, name + '.nc'), 'rb').read() for name in (right, left)]
+    if texts[0].count(HANDS[0]) != 1 or texts[0].replace(*HANDS) != texts[1]:
+        said.append('%s and %s differ in more than one word' % (right, left))
+    return said
+
+
 def tools_shown(name):
     """The lines of tools that README.md has for a plate."""
     with open(os.path.join(HOME, 'README.md')) as file:
@@ -149,6 +172,11 @@ def check_plates():
         if not said:
             metal = least_metal(drawing) / 100
             print('%s: %s, as drawn, no place twice, %.2f mm between holes' % (name, counted(drawing.drawn), metal))
+    for right, left in LEFT_OF.items():
+        said = not_a_pair(right, left, DRAWINGS)
+        wrong += said
+        if not said:
+            print('%s: the mirror of %s' % (left, right))
     return wrong
 
 
