@@ -42,6 +42,10 @@ printf 'G92X600.Y600.\nG70X1.Y2.T7\nX3.T99\nM0\nX4.T1\nX5.T99\nG50\n' >"$out/too
 printf 'ENTRIES 4\n1 300 200 99 P\n2 0 0 0 S\n3 400 200 1 P\n4 500 200 99 P\n1 1 3 3\n99 2 1 4\n' >"$out/tools.list"
 ends 0 target/example "$out/tools.nc"
 cmp -s "$out/tools.list" "$out/printed" || fail "tools"
+printf 'G92X600.Y600.\nG93X50.Y60.\nU60\nX1.Y2.T3\nM0\nV60\nG73X9.Y8.Q2W60\nG73Q3W60\nG50\n' >"$out/mirrors.nc"
+printf 'ENTRIES 4\n1 5800 6200 3 P\n2 0 0 0 S\n3 5100 6600 3 P\n4 0 0 0 S\n3 2 1 3\n' >"$out/mirrors.list"
+ends 0 target/example "$out/mirrors.nc"
+cmp -s "$out/mirrors.list" "$out/printed" || fail "mirrors"
 printf 'G92X600.Y600.\nX-11.T1\nG50\n' >"$out/refused.nc"
 ends 1 target/example "$out/refused.nc"
 [ "$(cat "$out/printed")" = 'REFUSED 16 LINE 2' ] || fail "a refusal"
@@ -76,7 +80,7 @@ ends 0 cargo run --offline --example plate -- -0 "$out/millimetres.nc"
 ends 1 cargo run --offline --example plate -- "$out/millimetres.nc"
 ends 1 cargo run --offline --example plate -- "$out/refused.nc"
 ends 1 cargo run --offline --example plate -- no-such-file
-for text in stops tools; do
+for text in stops tools mirrors; do
     ends 0 cargo run --offline --example plate -- "$out/$text.nc"
     cmp -s "$out/$text.list" "$out/printed" || fail "$text by plate"
     ends 0 cargo run --offline -p plain --example entries -- "$out/$text.nc"

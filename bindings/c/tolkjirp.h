@@ -18,9 +18,10 @@ extern "C" {
 /*
  * The version of this header and of the library that it comes with. A program is
  * to be compiled with the header of the library that it is linked with: the
- * function of an older one has the same name and other parameters.
+ * function of one before 0.6.0 has the same name and other parameters. From 0.6.0
+ * to 0.7.0 nothing of it has changed.
  */
-#define TOLKJIRP_VERSION "0.6.0"
+#define TOLKJIRP_VERSION "0.7.0"
 
 /* The most bytes that a text may have; a longer one is refused. */
 #define TOLKJIRP_LONGEST_TEXT 60000
@@ -88,12 +89,13 @@ enum tolkjirp_refusal {
     TOLKJIRP_STRAY_BYTE = 2,
     TOLKJIRP_TOO_MANY_BLOCKS = 3,
     TOLKJIRP_WORD_FORM = 4,
-    TOLKJIRP_UNKNOWN_BLOCK = 5,
+    TOLKJIRP_UNKNOWN_BLOCK = 5, /* also a G73 without X or Y, where no G73
+                                   before it gave that letter */
     TOLKJIRP_NUMBER_RANGE = 6,
     TOLKJIRP_WRONG_PLACE = 7,
     TOLKJIRP_UNKNOWN_MACHINE = 8,
     TOLKJIRP_UNMATCHED_MACRO = 9,
-    TOLKJIRP_NOTHING_STORED = 10,
+    TOLKJIRP_NOTHING_STORED = 10, /* by W, G73, G75, G76 or B */
     TOLKJIRP_TOO_MANY_CALLS = 11,
     TOLKJIRP_MACROS_FULL = 12,
     TOLKJIRP_NO_LAYOUT = 13,
@@ -164,9 +166,10 @@ static inline const char *tolkjirp_refusal_text(uint64_t refusal)
  *                      a hit they are X and Y in hundredths of a millimetre,
  *                      the tool (1 to 99), and the mode (0 punching, 1
  *                      nibbling); of a stop they are 0, 0, 0 and the mode (2,
- *                      or 3 for an optional stop). Fewer than four numbers at
- *                      the end are no place for an entry. What the list holds
- *                      before the call does not matter.
+ *                      or 3 for an optional stop). A hit in a macro that G73
+ *                      mirrors has the place where it lies on the sheet. Fewer
+ *                      than four numbers at the end are no place for an entry.
+ *                      What the list holds before the call does not matter.
  * tally                The hits of each tool, and the first and the last index
  *                      where it stands. What it holds before the call does not
  *                      matter. It is always written, so it may not be null.

@@ -16,7 +16,7 @@ pub enum Refusal {
     TooManyBlocks = 3,
     /// A word is not a letter with a well-formed number.
     WordForm = 4,
-    /// A code is unknown, or the words don't make a block.
+    /// A code is unknown, or the words don't make a block; a G73 has no X or no Y, and none before it gave that letter.
     UnknownBlock = 5,
     /// A number is of the wrong kind or out of its range; at setting 0 also a length or an angle that passes 9,999.99 mm
     /// or degrees.
@@ -27,9 +27,9 @@ pub enum Refusal {
     UnknownMachine = 8,
     /// A U line has no V line of its own, or a V line stands alone.
     UnmatchedMacro = 9,
-    /// A macro or memory is called in which nothing is stored.
+    /// A macro or memory is called, by W, G73, G75, G76 or B, in which nothing is stored.
     NothingStored = 10,
-    /// A call comes while four calls are open.
+    /// A call comes while four calls are open; G73 is a call.
     TooManyCalls = 11,
     /// The stored macros would pass 3,100 characters.
     MacrosFull = 12,
@@ -37,9 +37,9 @@ pub enum Refusal {
     NoLayout = 13,
     /// A hit has no tool chosen.
     NoTool = 14,
-    /// A place or a reach passes 9,999.99 mm.
+    /// A place or a reach passes 9,999.99 mm; hits and ends of moves are judged where they lie after all mirrors.
     TooFar = 15,
-    /// A hit or the end of a move is outside the machine's range.
+    /// A hit or the end of a move is outside the machine's range, after all mirrors.
     OutOfRange = 16,
     /// The list has no place left for an entry.
     ListFull = 17,

@@ -138,6 +138,40 @@ fn edges_that_do_not_fit_are_refused_before_their_hits() {
 }
 
 #[test]
+fn a_left_rack_mirrors_the_right_one() {
+    let rack = "G93 X100. Y50.\nU60\nX10. Y20. T2\nG28 I5. J30. K1\nM00\nV60\n";
+    let run = |q: u8| printed(&format!("{rack}G73 X200. Y90. Q{q} W60"));
+    let right = ["11000 7000 2 P", "11433 7250 2 P", "0 0 0 S"];
+    assert_eq!(run(1), right);
+    // 200 less X and 90 less Y, measured from the origin
+    assert_eq!(run(2), ["29000 7000 2 P", "28567 7250 2 P", "0 0 0 S"]);
+    assert_eq!(run(3), ["11000 12000 2 P", "11433 11750 2 P", "0 0 0 S"]);
+    assert_eq!(run(4), ["29000 12000 2 P", "28567 11750 2 P", "0 0 0 S"]);
+    // distances left out are the last ones, and twice by one Q gives the first hits again
+    let twice = format!("{rack}U61\nG73 Q2 W60\nV61\nG73 X200. Y90. Q2 W61");
+    assert_eq!(printed(&twice), right);
+    let in_millimetres = program("U60\nX10 Y20 T2\nV60\nG73 X200 Y90 Q4 W60");
+    let mirrored = hits(Millimetres, &in_millimetres, 1);
+    assert_eq!((mirrored[0].x, mirrored[0].y), (19_000, 7_000));
+}
+
+#[test]
+fn mirrors_are_refused_by_letters_macros_and_places() {
+    let hit = "U60\nX10. Y20. T2\nV60\n";
+    assert_eq!(refusal("G73 X9. Y9. Q1 W60"), (10, 2));
+    for block in ["G73 X9. Q2 W60", "G73 Y9. Q3 W60", "G73 Q1 W60"] {
+        assert_eq!(refusal(&format!("{hit}{block}")), (5, 5), "{block}");
+    }
+    assert_eq!(refusal(&format!("{hit}G73 X9. Y9. Q1 W60 T2")), (5, 5));
+    assert_eq!(refusal(&format!("{hit}G73 X9. Y9. Q5 W60")), (6, 5));
+    assert_eq!(refusal("U60\nG73 X9. Y9. Q1 W60\nV60\nW60"), (11, 3));
+    // where the hit lies after the mirror
+    assert_eq!(printed(&format!("{hit}G73 X-0.2 Y9. Q2 W60")), ["-1020 2000 2 P"]);
+    assert_eq!(refusal(&format!("{hit}G73 X-0.21 Y9. Q2 W60")), (16, 3));
+    assert_eq!(refusal("U60\nX-9. Y20. T2\nV60\nG73 X9999. Y9. Q2 W60"), (15, 3));
+}
+
+#[test]
 fn modes_and_tools_are_given() {
     assert_eq!(
         printed("X10. T7\nM12\nX20.\nM13\nX30. T99"),

@@ -57,6 +57,8 @@ pub struct Census {
     answers: [Row; 19],
     /// Those accepted that have a G66.
     sheared: Row,
+    /// Those accepted that have a G73.
+    mirrored: Row,
     /// Those accepted with stops among their entries.
     stopped: Row,
     /// Those accepted with hits by several tools, one of which stands again after something else.
@@ -94,12 +96,15 @@ impl Census {
     fn rows(&mut self, call: Call) -> impl Iterator<Item = &mut Row> {
         let Answer { number, line, .. } = call.answer;
         let text = &call.sample.text;
-        let is_sheared = number == 0 && has_code(&without_spaces(text), b"66");
+        let bytes = without_spaces(text);
+        let is_sheared = number == 0 && has_code(&bytes, b"66");
+        let is_mirrored = number == 0 && has_code(&bytes, b"73");
         let is_past_limit = (call.setting, number) == (0, 6) && has_long_number(text, line);
         // 17 comes from hits and from stops, and no hit has an M
         let is_unplaced_stop = number == 17 && line_of(text, line).contains(&b'M');
         let further = [
             is_sheared.then_some(&mut self.sheared),
+            is_mirrored.then_some(&mut self.mirrored),
             (call.stops > 0).then_some(&mut self.stopped),
             call.tools.are_mixed.then_some(&mut self.mixed_tools),
             call.tools.have_ends.then_some(&mut self.end_tools),
@@ -112,14 +117,12 @@ impl Census {
 
     pub fn print(&self) {
         println!("Texts by the setting that they are written for and the one at which they are expanded;");
+        println!("G66, G73: those accepted that have one; stops: those accepted with stops in the list; tools: those");
+        println!("accepted with hits by several tools, one of which stands again after something else; T1, T99: those");
         println!(
-            "G66: those accepted that have one; stops: those accepted with stops in the list; tools: those accepted"
+            "accepted with hits by both; limit: those by 6 that have a length or an angle past the limit of setting 0;"
         );
-        println!(
-            "with hits by several tools, one of which stands again after something else; T1, T99: those accepted with"
-        );
-        println!("hits by both; limit: those by 6 that have a length or an angle past the limit of setting 0; stop: those by");
-        println!("17 that come from a stop.");
+        println!("stop: those by 17 that come from a stop.");
         let titles = COLUMNS.map(|(written, expanded)| format!("{written} at {expanded}"));
         print_cells("answer", titles, ["in bodies", "calls"]);
         for (number, row) in self.answers.iter().enumerate() {
@@ -130,6 +133,7 @@ impl Census {
             match number {
                 0 => {
                     self.sheared.print("G66");
+                    self.mirrored.print("G73");
                     self.stopped.print("stops");
                     self.mixed_tools.print("tools");
                     self.end_tools.print("T1, T99");
@@ -238,5 +242,8 @@ mod tests {
         let has_shear = |text: &[u8]| has_code(&without_spaces(text), b"66");
         assert!(has_shear(b"G92X1Y1\nA1 G 0 6 6I1J1P1\nG50"));
         assert!(!has_shear(b"G92X66Y1\nG6\nG660\nG\n66"));
+        let has_mirror = |text: &[u8]| has_code(&without_spaces(text), b"73");
+        assert!(has_mirror(b"G92X1Y1\nN5 W60 Q 1 G0073\nG50"));
+        assert!(!has_mirror(b"G92X73Y1\nG730\nN73\nG66I1J1P1"));
     }
 }

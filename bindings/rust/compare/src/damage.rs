@@ -25,8 +25,8 @@ const ALPHABET: &[u8] = b"ABCDGIJKMNPQTUVWXY0123456789+-. \n";
 /// Letters and numbers that words are made of.
 const LETTERS: &[u8] = b"AABDGGGGIJKMMNPQTUVWXXYYZ";
 const NUMBERS: &[&str] = &[
-    "0", "1", "2", "5", "8", "12", "26", "28", "36", "50", "60", "66", "70", "72", "90", "91", "93", "100", "10.",
-    "2.5", "-1", "+3", "9999", "10000", "-9999", "-10000", "009999", "010000",
+    "0", "1", "2", "5", "8", "12", "26", "28", "36", "50", "60", "66", "70", "72", "73", "90", "91", "93", "100",
+    "10.", "2.5", "-1", "+3", "9999", "10000", "-9999", "-10000", "009999", "010000",
 ];
 
 /// Puts one to three faulty lines, or lines at the ends of what is allowed, into a program.

@@ -6,6 +6,7 @@ pub mod clock;
 pub mod damage;
 pub mod libraries;
 pub mod limits;
+pub mod mirrors;
 pub mod notation;
 pub mod pair;
 pub mod programs;

@@ -76,28 +76,41 @@ pub fn deep_calls(random: &mut Random, setting: Setting) -> Vec<u8> {
                     "W5\n",
                     "G28I1.J0K3\n",
                     "G66I3.J0P2.\n",
+                    "G73X1.Y1.Q2W77\n",
                 ])
                 .to_string()
         } else {
-            format!("W{}\n", number - 1)
+            one_call(random, number - 1)
         };
         let before = random.pick(&["", "M8\n", "M1\n", "G91X0.5\n"]);
         text.push_str(&format!("U{number}\n{before}{call}V{number}\n"));
     }
     let last = 60 + depth - 1;
+    let call = one_call(random, last);
     text.push_str(&match random.below(4) {
-        0 => format!("W{last}\n"),
-        1 => format!("U5\nW{last}\nV5\nW5\n"),
+        0 => call,
+        1 => format!("U5\n{call}V5\nW5\n"),
         2 => format!("G98X10.Y10.I20.P2\nG75W{last}Q2\n"),
-        _ => format!("U5\nW{last}\nV5\nG98X10.Y10.J20.K2\nG76W5Q3\n"),
+        _ => format!("U5\n{call}V5\nG98X10.Y10.J20.K2\nG76W5Q3\n"),
     });
     text.push_str("G50\n");
     written_for(setting, &text).into_bytes()
 }
 
+/// W or G73 of a macro, usually with both letters.
+fn one_call(random: &mut Random, number: i32) -> String {
+    let distances = match random.below(8) {
+        0..=3 => return format!("W{number}\n"),
+        4 => random.pick(&["", "X30.", "Y40."]),
+        _ => random.pick(&["X30.Y40.", "X20.5Y10.", "Y0X50."]),
+    };
+    format!("G73{distances}Q{}W{number}\n", 1 + random.below(4))
+}
+
 /// What comes when the blocks are spent, or nearly; a slash stands for a line feed.
 const LAST_BLOCKS: &str = "G50 G50 G50 W64 W64 G50/M0 G50/V5 G50/V95 G50/X V5 V5 V95 W60/G50 M8 X U61/V62 U60/V60 \
-    M0 M0/G50 M1/M0/G50 G98X9999.Y1.I1.P1/G75W60Q1/G50 G66I1.J0P1. G66I1.J0P1./G50";
+    M0 M0/G50 M1/M0/G50 G98X9999.Y1.I1.P1/G75W60Q1/G50 G66I1.J0P1. G66I1.J0P1./G50 G73X1.Y1.Q2W60/G50 G73Q1W60 \
+    G73X1.Y1.Q3W64 G50/G73Q1W60";
 
 /// Blocks near 100,000, through nested macros or through copies.
 pub fn many_blocks(random: &mut Random) -> Vec<u8> {
@@ -113,8 +126,9 @@ pub fn many_blocks(random: &mut Random) -> Vec<u8> {
         text.push_str("G98X1.Y1.I0.01J0.01P89K99\nG75W60Q1\n");
         missing -= 90_002;
     }
+    let code = random.pick(&["", "", "G73X1.Y1.Q2"]);
     for (call, blocks) in [("W63\n", 11_111), ("W62\n", 1_111), ("W61\n", 111), ("W60\n", 11)] {
-        text.push_str(&call.repeat((missing / blocks) as usize));
+        text.push_str(&format!("{code}{call}").repeat((missing / blocks) as usize));
         missing %= blocks;
     }
     text.push_str(&"M9\n".repeat(missing as usize));
@@ -227,11 +241,12 @@ const BEFORE_RUN: &str =
 /// Blocks that change or show the state within a part.
 const IN_PART: &str = "X10.Y10. B1 B1 B2 M12 M13 G91X1. G90Y5.T7 G72X3.Y4. A1G36I2.P1J2.K1 A1G28I1.5J90.K3 W60 \
     G70X2.T9 G91 G90 A2G29I3.J0P45.K3 G72Y1. G90G72X5. A1G66I3.J30.P2. G66I4.J120.P1.5D0.25T6 G91G66I3.J0P-2. \
-    M0 M01 G72X6.Y5./M00 G72X4./M1/B1";
+    M0 M01 G72X6.Y5./M00 G72X4./M1/B1 G73X20.Y10.Q2W60 G73X9.5Y-3.Q4W60 G73Q3W60 G73X7.Q2W60 G73Y4.Q4W60 \
+    G72X3./G73Q1W60";
 
 /// Blocks that show the state after a run.
-const AFTER_RUN: &str =
-    "B1 B2 G28I2.J0K2 G66I3.J45.P2.D-0.25 X-1. G91X1. G90X5. W60 Y3.T8 G72X1.Y1. G93X1. M8 M0 M1/B1";
+const AFTER_RUN: &str = "B1 B2 G28I2.J0K2 G66I3.J45.P2.D-0.25 X-1. G91X1. G90X5. W60 Y3.T8 G72X1.Y1. G93X1. M8 M0 \
+    M1/B1 G73Q2W60 G73X4.Q4W60";
 
 /// A layout with a part that changes all of the state, and blocks that show the state afterwards.
 pub fn layout_states(random: &mut Random, setting: Setting) -> Vec<u8> {
@@ -245,6 +260,7 @@ pub fn layout_states(random: &mut Random, setting: Setting) -> Vec<u8> {
     text.push_str("V1\n");
     for _ in 0..1 + random.below(2) {
         add_blocks(random, &mut text, BEFORE_RUN, 1);
+        text.push_str(random.pick(&["", "G73X12.Y7.25Q1W60\n"]));
         let code = random.pick(&[75, 76]);
         text.push_str(&format!("G{code}W1Q{}\n", 1 + random.below(4)));
         add_blocks(random, &mut text, AFTER_RUN, 2);

@@ -13,6 +13,8 @@ pub struct Programmer {
     stored: Vec<i32>,
     /// Memories with a pattern, as far as they are known.
     memories: Vec<i32>,
+    /// Whether a G73 came before, as far as it is known.
+    has_mirrored: bool,
     is_within_body: bool,
 }
 
@@ -23,6 +25,7 @@ impl Programmer {
             is_relative: Some(false),
             stored: Vec::new(),
             memories: Vec::new(),
+            has_mirrored: false,
             is_within_body: false,
         }
     }
@@ -288,12 +291,31 @@ impl Programmer {
         }
     }
 
+    /// W or G73.
     fn call(&mut self) {
         if let Some(number) = self.stored_number() {
-            let word = self.scribe.whole('W', number);
-            self.scribe.block(&mut [word]);
+            let mut words = vec![self.scribe.whole('W', number)];
+            if self.scribe.random.one_in(2) {
+                self.mirror_words(&mut words);
+            }
+            self.scribe.block(&mut words);
             self.is_relative = None;
         }
+    }
+
+    /// The code and the numbers of a G73, usually with both distances if none were given before.
+    fn mirror_words(&mut self, words: &mut Vec<String>) {
+        words.push(self.scribe.code('G', 73));
+        let sides = self.scribe.count(1, 4);
+        words.push(self.scribe.whole('Q', sides));
+        for letter in ['X', 'Y'] {
+            let times = if self.has_mirrored { 2 } else { 25 };
+            if !self.scribe.random.one_in(times) {
+                let length = self.scribe.length(8_000, 20_000);
+                words.push(self.scribe.measure(letter, length));
+            }
+        }
+        self.has_mirrored |= !self.is_within_body;
     }
 
     /// A U line, its body and its V line.

@@ -4,6 +4,7 @@ use tolkjirp::Setting;
 
 use crate::damage;
 use crate::limits;
+use crate::mirrors;
 use crate::programs::Programmer;
 use crate::random::Random;
 use crate::shears;
@@ -36,7 +37,7 @@ fn text(random: &mut Random, seed: u64, setting: Setting) -> Vec<u8> {
     if random.one_in(1_000) {
         return limits::long_text(random, program());
     }
-    match random.below(120) {
+    match random.below(132) {
         0..=34 => program(),
         35..=59 => {
             let mut text = program();
@@ -57,8 +58,11 @@ fn text(random: &mut Random, seed: u64, setting: Setting) -> Vec<u8> {
         94..=99 => limits::layout_states(random, setting),
         100..=105 => stops::stops(random, setting),
         106..=113 => tools::tools(random, setting),
-        _ => {
-            let mut text = shears::shears(random, setting);
+        number => {
+            let mut text = match number {
+                114..=125 => mirrors::mirrors(random, setting),
+                _ => shears::shears(random, setting),
+            };
             if random.one_in(6) {
                 damage::damage(random, &mut text);
             }
@@ -131,6 +135,26 @@ mod tests {
             let full_of_stops = |seed| stops::stops(&mut Random::new(seed), setting);
             let met = (0..1_000).filter(|&seed| stops_of(&full_of_stops(seed)) > 0).count();
             assert!(met > 500, "{met} of 1,000 full of stops at {setting:?}");
+        }
+    }
+
+    #[test]
+    fn mirrors_are_met_in_accepted_texts() {
+        for setting in [Setting::Hundredths, Setting::Millimetres] {
+            let mut pair = Pair::new(16_384);
+            let mut met = [0; 19];
+            for seed in 0..1_000 {
+                let text = mirrors::mirrors(&mut Random::new(seed), setting);
+                let answer = pair.compare(setting.number(), &text, 16_384);
+                let answer = answer.unwrap_or_else(|difference| panic!("{}", difference.describe()));
+                met[usize::from(answer.number)] += 1;
+            }
+            assert!(met[0] > 500, "{} of 1,000 at {setting:?}", met[0]);
+            let missing: Vec<_> = [5, 6, 10, 14, 15, 16]
+                .into_iter()
+                .filter(|&number| met[number] == 0)
+                .collect();
+            assert!(missing.is_empty(), "never met at {setting:?}: {missing:?}");
         }
     }
 

@@ -16,7 +16,8 @@ const BLOCKS: &str = "X10.Y10. X20.T3 Y15. G91X1. G91Y-0.5 G90X12. G91 G90 M12 M
     G28I1.J0K2 A1G26I2.J0K3 A1G36I2.P1J2.K1T4 B1 B1 G66I3.J0P2. G72X8./B1 G29I5.J30.P45.K2";
 
 /// Blocks that stand outside bodies; a slash stands for a line feed, a bar for a stop.
-const OUTSIDE: &str = "G93X1.Y2. U60/|/V60 U60/|/|/X5./V60/W60 U1/|/V1 U2/X3.T5/|/V2 U3/G72X9.Y9./|/V3/B1 W60 W1 W2";
+const OUTSIDE: &str = "G93X1.Y2. U60/|/V60 U60/|/|/X5./V60/W60 U1/|/V1 U2/X3.T5/|/V2 U3/G72X9.Y9./|/V3/B1 W60 W1 W2 \
+    U60/|/X7./|/V60/G73X90.Y70.Q4W60";
 
 /// The places of the usual list.
 const PLACES: i32 = 4_096;
@@ -55,7 +56,7 @@ fn in_parts(random: &mut Random) -> String {
     let pitches = random.pick(&["I60.J50.", "I60.J50.D0.5", "", "I5.", "J7.25"]);
     text.push_str(&format!("G98X80.Y90.{pitches}P{columns}K{rows}\n"));
     text.push_str(&macro_with_stops(random, 61, ""));
-    let call = random.pick(&["", "W61\n"]);
+    let call = random.pick(&["", "W61\n", "G73X50.Y40.Q4W61\n"]);
     text.push_str(&macro_with_stops(random, 1, call));
     for _ in 0..1 + random.below(3) {
         for _ in 0..random.below(3) {

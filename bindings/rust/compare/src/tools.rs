@@ -87,7 +87,7 @@ fn in_parts(random: &mut Random, palette: &[i32], text: &mut String) {
     let (columns, rows) = (random.below(5), random.below(4));
     let pitches = random.pick(&["I60.J50.", "I60.J50.D0.5", "", "I5.", "J7.25"]);
     text.push_str(&format!("G98X80.Y90.{pitches}P{columns}K{rows}\n"));
-    let call = random.pick(&["", "", "W61\n"]);
+    let call = random.pick(&["", "", "W61\n", "G73X40.Y30.Q2W61\n"]);
     add_macro(random, palette, text, 1, call);
     for _ in 0..1 + random.below(3) {
         add_blocks(random, palette, text, 2);
@@ -103,7 +103,15 @@ fn in_macros(random: &mut Random, palette: &[i32], text: &mut String) {
     add_macro(random, palette, text, 60, "");
     add_macro(random, palette, text, 2, "W60\n");
     for _ in 0..1 + random.below(5) {
-        text.push_str(random.pick(&["", "W60\n", "W2\n", "W60\nW60\n", "G93X1.Y2.\n"]));
+        text.push_str(random.pick(&[
+            "",
+            "W60\n",
+            "W2\n",
+            "W60\nW60\n",
+            "G93X1.Y2.\n",
+            "G73X90.Y80.Q4W60\n",
+            "G73X70.Y60.Q1W2\n",
+        ]));
         add_blocks(random, palette, text, 3);
     }
 }

@@ -67,9 +67,17 @@ fn in_hundredths() -> Vec<Row> {
         ),
         ("G66 of 58,822 steps, refused at once", most_steps("100."), USUAL),
         ("G66 of 58,822 steps, refused on its way", most_steps("9999.99"), USUAL),
+        ("4 x 999 hits of a grid, by G73 Q1", mirrored_grid(1), USUAL),
+        ("4 x 999 hits of a grid, by G73 Q4", mirrored_grid(4), USUAL),
+        ("13 x 300 positions, by G73 Q1", mirrored_positions(1), USUAL),
+        ("13 x 300 positions, by G73 Q4", mirrored_positions(4), USUAL),
+        ("G73 lines", mirror_lines(), USUAL),
+        ("G73 lines of one hit", mirrored_hits(), USUAL),
+        ("90,000 blocks through nested mirrors", nested_mirrors(), USUAL),
         ("4,096 copies of a part", copies(), USUAL),
         ("1,024 copies of a part with stops", copies_with_stops(), USUAL),
         ("1,024 copies of a part of four tools", copies_with_tools(), USUAL),
+        ("1,024 copies of a part of four mirrors", copies_with_mirrors(), USUAL),
         ("positions, each by another tool", tool_changes(), USUAL),
         ("M00 and M01 lines", stops(), USUAL),
         ("400 x 10,000 copies, empty part", empty_part("", 400), USUAL),
@@ -132,12 +140,23 @@ fn flat(setting: Setting) -> String {
 
 /// Three levels of macros, with moves at the bottom.
 fn nested() -> String {
+    nested_by("", ["", "", ""])
+}
+
+/// The same, each called by a G73 that leaves out its distances, with these given before.
+fn nested_mirrors() -> String {
+    nested_by("U60\nV60\nG73 X500. Y500. Q1 W60\n", ["G73 Q4 ", "G73 Q2 ", "G73 Q3 "])
+}
+
+/// Three levels of macros after some blocks, with moves at the bottom, each called with these words before its W.
+fn nested_by(before: &str, [lowest, middle, upper]: [&str; 3]) -> String {
     let moves = "G70 X100. Y200. T3\nG91 G70 X1.5\nG90\nG72 X50. Y60.\nM12\nM13\nG70 X20. Y-5.25\nG90\n";
-    let middle = "W60\n".repeat(50);
-    let upper = "W61\n".repeat(50);
+    let calls = |words: &str, number: u8, count| format!("{words}W{number}\n").repeat(count);
     format!(
-        "{G92}U60\n{moves}V60\nU61\n{middle}V61\nU62\n{upper}V62\n{}{G50}",
-        "W62\n".repeat(4)
+        "{G92}{before}U60\n{moves}V60\nU61\n{}V61\nU62\n{}V62\n{}{G50}",
+        calls(lowest, 60, 50),
+        calls(middle, 61, 50),
+        calls(upper, 62, 4)
     )
 }
 
@@ -218,6 +237,31 @@ fn most_steps(x: &str) -> String {
     format!("{G92}G72 X{x} Y0\nG66 I9999.99 J0 P1.01 D9999.99 T2\n{G50}")
 }
 
+/// A grid run by G73 four times, nearly filling the list.
+fn mirrored_grid(q: u8) -> String {
+    let calls = format!("G73 Q{q} W60\n").repeat(3);
+    format!("{G92}U60\nG70 X1. Y1. T2\nG36 I9. P39 J9. K24\nV60\nG73 X500. Y500. Q{q} W60\n{calls}{G50}")
+}
+
+/// A body full of positions run by G73 until the list is nearly full.
+fn mirrored_positions(q: u8) -> String {
+    let position = |number| format!("X{}.Y{}.\n", 10 + number * 37 % 90, 10 + number * 91 % 90);
+    let positions: String = (0..300).map(position).collect();
+    let calls = format!("G73 Q{q} W60\n").repeat(12);
+    format!("{G92}G70 X1. Y1. T2\nU60\n{positions}V60\nG73 X500. Y500. Q{q} W60\n{calls}{G50}")
+}
+
+/// A short macro, mirrored again and again.
+fn mirror_lines() -> String {
+    filled("U60\nM8\nV60\nG73X1.Y1.Q1W60\n", "G73Q4W60\n")
+}
+
+/// A macro of one hit, mirrored until the list is full.
+fn mirrored_hits() -> String {
+    let lines = "G73Q2W60\nG73Q3W60\n".repeat(USUAL / 8 - 1);
+    format!("{G92}U60\nX100.Y90.T2\nV60\nG73X500.Y500.Q4W60\n{lines}{G50}")
+}
+
 fn copies() -> String {
     format!("{G92}G98 X5. Y5. I9. J9. P63 K63\nU1\nX1. Y1. T2\nV1\nG75 W1 Q4\n{G50}")
 }
@@ -230,6 +274,12 @@ fn copies_with_stops() -> String {
 /// A part of four hits by four tools, copied until the list is full.
 fn copies_with_tools() -> String {
     format!("{G92}G98 X5. Y5. I9. J9. P31 K31\nU1\nX1. Y1. T2\nX2. T99\nX3. T1\nX4. T50\nV1\nG75 W1 Q3\n{G50}")
+}
+
+/// A part that mirrors a hit to four corners, copied until the list is full.
+fn copies_with_mirrors() -> String {
+    let corners = "G73 X7. Y7. Q1 W60\nG73 Q2 W60\nG73 Q4 W60\nG73 Q3 W60\n";
+    format!("{G92}U60\nX1. Y1. T2\nV60\nG98 X5. Y5. I9. J9. P31 K31\nU1\n{corners}V1\nG75 W1 Q1\n{G50}")
 }
 
 /// Positions with all tools in turn, until the list is full.

@@ -15,6 +15,7 @@ mod blocks;
 mod entries;
 mod layouts;
 mod macros;
+mod mirrors;
 mod order;
 mod patterns;
 mod press;

@@ -34,7 +34,7 @@ impl Body {
             .position(|&line| matches!(text.first_byte(line), b'U' | b'V'))
             .ok_or(Refusal::UnmatchedMacro)?;
         let (open, close) = (lines[opening], following[blocks]);
-        match Block::read(words, text.bytes(close)).map(|block| block.action) {
+        match Block::read(words, None, text.bytes(close)).map(|block| block.action) {
             Ok(Action::Close(closed)) if closed == number => {}
             _ => return Err(Refusal::UnmatchedMacro),
         }

@@ -39,19 +39,29 @@ impl Pattern {
     pub fn run(self, press: &mut Press) -> Result<(), Refusal> {
         let start = press.state.waiting.take().unwrap_or(press.state.at);
         self.judge()?;
-        press.state.at = match self {
-            Pattern::Line { pitch, angle, count } => punch_line(press, start, pitch, angle, count)?,
+        // The mirrors are looked up once, since looking them up for each hit takes time.
+        press.state.at = match press.mirror {
+            None => self.punch(start, |place| press.hit(place))?,
+            Some(mirror) => self.punch(start, |place| press.hit(mirror.image(place)))?,
+        };
+        Ok(())
+    }
+
+    /// Punches from a start on by a function that makes a hit, and gives the end.
+    fn punch(self, start: Point, mut hit: impl FnMut(Point) -> Result<(), Refusal>) -> Result<Point, Refusal> {
+        match self {
+            Pattern::Line { pitch, angle, count } => punch_line(hit, start, pitch, angle, count),
             Pattern::Arc {
                 radius,
                 angle,
                 step,
                 count,
-            } => punch_arc(press, start, radius, count, |k| angle + k * step)?,
+            } => punch_arc(hit, start, radius, count, |k| angle + k * step),
             Pattern::Circle { radius, angle, count } => {
                 let (size, sign) = (count.abs(), count.signum());
                 let angle = |k| angle + sign * circle_turn(k, size);
-                punch_arc(press, start, radius, size, angle)?;
-                start
+                punch_arc(hit, start, radius, size, angle)?;
+                Ok(start)
             }
             Pattern::Grid {
                 along,
@@ -60,16 +70,15 @@ impl Pattern {
                 rows,
             } => {
                 let place = |column, row| start.plus(column * pitch.x, row * pitch.y);
-                punch_grid(press, along, columns, rows, place)?
+                punch_grid(hit, along, columns, rows, place)
             }
             Pattern::Shear { shear, angle } => {
                 for (x, y) in shear.offsets(Direction::of(i32::from(angle))) {
-                    press.hit(start.plus(x, y))?;
+                    hit(start.plus(x, y))?;
                 }
-                start
+                Ok(start)
             }
-        };
-        Ok(())
+        }
     }
 
     /// What is judged before the hits: the reach of lines and grids, refusal 15, and the numbers of a shear, refusal 18.
@@ -91,20 +100,26 @@ impl Pattern {
 }
 
 /// Punches at 1 to `count` pitches from the start and gives the last place.
-fn punch_line(press: &mut Press, start: Point, pitch: i32, angle: i32, count: i32) -> Result<Point, Refusal> {
+fn punch_line(
+    mut hit: impl FnMut(Point) -> Result<(), Refusal>,
+    start: Point,
+    pitch: i32,
+    angle: i32,
+    count: i32,
+) -> Result<Point, Refusal> {
     let direction = Direction::of(angle);
     let mut place = start;
     for k in 1..=count {
         let (x, y) = direction.offset(k * pitch);
         place = start.plus(x, y);
-        press.hit(place)?;
+        hit(place)?;
     }
     Ok(place)
 }
 
 /// Punches around the start at angles 0 to `count - 1` and gives the last place.
 fn punch_arc(
-    press: &mut Press,
+    mut hit: impl FnMut(Point) -> Result<(), Refusal>,
     start: Point,
     radius: i32,
     count: i32,
@@ -114,7 +129,7 @@ fn punch_arc(
     for k in 0..count {
         let (x, y) = Direction::of(angle(k)).offset(radius);
         place = start.plus(x, y);
-        press.hit(place)?;
+        hit(place)?;
     }
     Ok(place)
 }
@@ -126,7 +141,7 @@ fn circle_turn(k: i32, n: i32) -> i32 {
 
 /// Punches all places of a grid but the first and gives the last one.
 fn punch_grid(
-    press: &mut Press,
+    mut hit: impl FnMut(Point) -> Result<(), Refusal>,
     along: Along,
     columns: i32,
     rows: i32,
@@ -136,7 +151,7 @@ fn punch_grid(
         if (column, row) == (0, 0) {
             return Ok(());
         }
-        press.hit(place(column, row))
+        hit(place(column, row))
     })?;
     let (column, row) = along.last(columns, rows);
     Ok(place(column, row))

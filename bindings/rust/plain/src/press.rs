@@ -4,6 +4,7 @@ use std::num::NonZeroU8;
 
 use crate::blocks::Axes;
 use crate::entries::{Entry, EntryList};
+use crate::mirrors::{Mirror, Symmetry};
 use crate::patterns::Pattern;
 use crate::refusal::Refusal;
 
@@ -107,13 +108,20 @@ pub struct State {
     pub mode: Mode,
     pub tool: Option<Tool>,
     pub memories: [Option<Pattern>; 5],
+    /// The X and Y of the last G73, if there was one.
+    pub given: Option<Point>,
 }
 
 impl State {
     /// Makes the place of a copy its origin and current point; no origin waits there.
     pub fn begin_copy(&mut self, place: Point) {
         self.origin = place;
-        self.at = place;
+        self.return_to_origin();
+    }
+
+    /// Makes the origin the current point; no pattern origin waits there.
+    fn return_to_origin(&mut self) {
+        self.at = self.origin;
         self.waiting = None;
     }
 }
@@ -121,6 +129,8 @@ impl State {
 /// A press that carries out positions.
 pub struct Press<'l> {
     pub state: State,
+    /// What the open mirrors do, if any are open; the places of the state are those as written.
+    pub mirror: Option<Mirror>,
     range: Range,
     list: EntryList<'l>,
 }
@@ -137,7 +147,9 @@ impl<'l> Press<'l> {
                 mode: Mode::Punch,
                 tool: None,
                 memories: [None; 5],
+                given: None,
             },
+            mirror: None,
             range: Range { right: 0, top: 0 },
             list,
         }
@@ -191,7 +203,7 @@ impl<'l> Press<'l> {
     pub fn punch_at(&mut self, axes: Axes) -> Result<(), Refusal> {
         self.state.waiting = None;
         let target = self.target(axes);
-        self.hit(target)?;
+        self.hit(self.image(target))?;
         self.state.at = target;
         Ok(())
     }
@@ -200,7 +212,7 @@ impl<'l> Press<'l> {
     pub fn move_to(&mut self, axes: Axes) -> Result<(), Refusal> {
         self.state.waiting = None;
         let target = self.target(axes);
-        self.range.judge(target)?;
+        self.range.judge(self.image(target))?;
         self.state.at = target;
         Ok(())
     }
@@ -211,7 +223,28 @@ impl<'l> Press<'l> {
         Ok(())
     }
 
-    /// Makes a hit; refusals 14 to 17.
+    /// G73: opens a mirror within those that are open, which it gives; the current point becomes the origin.
+    pub fn open_mirror(&mut self, symmetry: Symmetry) -> Option<Mirror> {
+        let outer = self.mirror;
+        let mirror = Mirror::of(symmetry, self.state.origin);
+        self.mirror = Some(outer.map_or(mirror, |outer| mirror.within(outer)));
+        self.state.given = Some(symmetry.distance);
+        self.state.return_to_origin();
+        outer
+    }
+
+    /// Goes back to the mirrors that were open before; the current point becomes the origin.
+    pub fn close_mirror(&mut self, outer: Option<Mirror>) {
+        self.mirror = outer;
+        self.state.return_to_origin();
+    }
+
+    /// Where a place lies after all mirrors.
+    fn image(&self, place: Point) -> Point {
+        self.mirror.map_or(place, |mirror| mirror.image(place))
+    }
+
+    /// Makes a hit at a place as it stands after all mirrors; refusals 14 to 17.
     pub fn hit(&mut self, place: Point) -> Result<(), Refusal> {
         let tool = self.state.tool.ok_or(Refusal::NoTool)?;
         self.range.judge(place)?;

@@ -3,6 +3,7 @@
 use crate::blocks::{Action, Axes, Block};
 use crate::layouts::{Corner, Layout};
 use crate::macros::{runs_first, Body, Store, MOST_CALLS};
+use crate::mirrors::Symmetry;
 use crate::order::Along;
 use crate::press::{Point, Press};
 use crate::refusal::{Refusal, Refused};
@@ -79,7 +80,7 @@ impl<'t, 'l> Expander<'t, 'l> {
             self.count_block()?;
         }
         // The block is used where it was read, since copying it takes time.
-        let read = Block::read(&mut self.words, self.text.bytes(line));
+        let read = Block::read(&mut self.words, self.press.state.given.as_ref(), self.text.bytes(line));
         let block = read.as_ref().map_err(|refusal| *refusal)?;
         self.judge_stage(block)?;
         if let Action::Open(number) = block.action {
@@ -167,6 +168,7 @@ impl<'t, 'l> Expander<'t, 'l> {
             }
             Action::Memory(number) => press.recall(number)?.run(press),
             Action::Call(number) => self.call(number, open),
+            Action::Mirror { number, symmetry } => self.call_mirrored(number, symmetry, open),
             Action::Read => {
                 press.state.waiting = None;
                 Ok(())
@@ -201,12 +203,22 @@ impl<'t, 'l> Expander<'t, 'l> {
         self.run_body(body, open + 1)
     }
 
+    /// G73: runs a body from the origin on and back to it, with a mirror open; refusals 10 and 11. Not inlined, so that it
+    /// takes no time in other blocks.
+    #[inline(never)]
+    fn call_mirrored(&mut self, number: u8, symmetry: Symmetry, open: u32) -> Result<(), Refusal> {
+        let outer = self.press.open_mirror(symmetry);
+        self.call(number, open)?;
+        self.press.close_mirror(outer);
+        Ok(())
+    }
+
     /// Carries out the blocks of a body, with so many calls open.
     fn run_body(&mut self, body: Body, open: u32) -> Result<(), Refusal> {
         for &line in &self.text.lines()[body.lines()] {
             self.line = line.number;
             self.count_block()?;
-            let read = Block::read(&mut self.words, self.text.bytes(line));
+            let read = Block::read(&mut self.words, self.press.state.given.as_ref(), self.text.bytes(line));
             let block = read.as_ref().map_err(|refusal| *refusal)?;
             self.run_any_block(block, open)?;
         }
