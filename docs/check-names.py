@@ -16,7 +16,7 @@ DEFINITION = re.compile(r'^(?:abbrev |unfoldable )?pub (?:record |data )?(?!mod 
 PAGE = 'docs/PUNCH-CODE.md'
 INDEX = '## The definitions by file'
 # how functions are proved, and statements about the definitions, which docs/READING.md names
-NOT_MEANING = {'Tallying', 'Runs', 'WidePoints', 'CopyRuns', 'CopyBlocks', 'CopyPairs', 'Refusals', 'Settings', 'Tools', 'Plates'}
+NOT_MEANING = {'Tallying', 'Steady', 'Runs', 'WidePoints', 'CopyRuns', 'CopyBlocks', 'CopyPairs', 'MirrorBlocks', 'Refusals', 'Settings', 'Tools', 'Plates'}
 
 missing = []
 
