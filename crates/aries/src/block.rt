@@ -4,7 +4,7 @@ ghost use Rattle.aries.specs.Moves.{written_over};
 use crate::point::Point;
 
 // The kinds of block: by the G code or, without one, by the letters.
-#[derive(Drop)]
+#[derive(Clone, Copy)]
 pub enum Kind {
     G26,
     G28,
@@ -32,14 +32,14 @@ pub enum Kind {
 }
 
 // One axis of a block: its value where it is written.
-#[derive(Drop)]
+#[derive(Clone, Copy)]
 pub struct Axis {
     pub written: bool,
     pub value: i32,
 }
 
 // The X and Y words of a block.
-#[derive(Drop)]
+#[derive(Clone, Copy)]
 pub struct Axes {
     pub x: Axis,
     pub y: Axis,
@@ -65,14 +65,14 @@ impl Axes {
 
 // Steps from the first place of a grid or layout to the last one, along X and along Y: one less than its columns and
 // its rows.
-#[derive(Drop)]
+#[derive(Clone, Copy)]
 pub struct Steps {
     pub x: u16,
     pub y: u16,
 }
 
 // The pitches of a layout.
-#[derive(Drop)]
+#[derive(Clone, Copy)]
 pub struct Pitch {
     pub x: u32,
     pub y: u32,
@@ -80,7 +80,7 @@ pub struct Pitch {
 
 // The lengths of G66: of the edge (I), of the tool along it (P) and across it (Q), which have the sign of the side where the
 // tool lies, and what is added at both ends (D).
-#[derive(Drop)]
+#[derive(Clone, Copy)]
 pub struct Shear {
     pub length: i32,
     pub along: i32,
@@ -89,7 +89,7 @@ pub struct Shear {
 }
 
 // A pattern code with its numbers.
-#[derive(Drop)]
+#[derive(Clone, Copy)]
 pub enum Pattern {
     // G28: count hits, the k-th at k times the pitch
     Line {
@@ -125,7 +125,7 @@ pub enum Pattern {
 }
 
 // What G98 sets: the reference point, the pitches with D added, and the steps P and K.
-#[derive(Drop)]
+#[derive(Clone, Copy)]
 pub struct Layout {
     pub reference: Point,
     pub pitch: Pitch,
@@ -133,7 +133,7 @@ pub struct Layout {
 }
 
 // A G75 block, or with vertical a G76 block: the part that it copies and the corner where it starts, by Q.
-#[derive(Drop)]
+#[derive(Clone, Copy)]
 pub struct Copies {
     pub vertical: bool,
     pub part: u8,
@@ -141,7 +141,7 @@ pub struct Copies {
 }
 
 // A block that is carried out where it stands, in a body and outside bodies. A tool of 0 is no T, a memory of 0 no A.
-#[derive(Drop)]
+#[derive(Clone, Copy)]
 pub enum Direct {
     // a lone G90 or G91
     Lone,
@@ -164,7 +164,7 @@ pub enum Direct {
 }
 
 // A block that stands only outside bodies.
-#[derive(Drop)]
+#[derive(Clone, Copy)]
 pub enum Outside {
     // G92
     Machine(Point),
@@ -183,7 +183,7 @@ pub enum Outside {
 }
 
 // A G73 block: the part that it runs, how that is mirrored, by Q, and X and Y, where they are written.
-#[derive(Drop)]
+#[derive(Clone, Copy)]
 pub struct Mirroring {
     pub part: u8,
     pub way: u8,
@@ -191,7 +191,7 @@ pub struct Mirroring {
 }
 
 // A block that calls a macro.
-#[derive(Drop)]
+#[derive(Clone, Copy)]
 pub enum Call {
     // W
     Plain(u8),
@@ -200,7 +200,7 @@ pub enum Call {
 }
 
 // What a block asks for, by where it may stand: direct blocks and calls stand anywhere.
-#[derive(Drop)]
+#[derive(Clone, Copy)]
 pub enum Block {
     Direct(Direct),
     Call(Call),
@@ -208,7 +208,7 @@ pub enum Block {
 }
 
 // How X and Y are read from a block on: as before, by G90 or by G91.
-#[derive(Drop)]
+#[derive(Clone, Copy)]
 pub enum Measure {
     Unchanged,
     Absolute,
@@ -216,21 +216,21 @@ pub enum Measure {
 }
 
 // A block with the G90 or G91 that stands in it.
-#[derive(Drop)]
+#[derive(Clone, Copy)]
 pub struct Instruction {
     pub measure: Measure,
     pub block: Block,
 }
 
 // What a line comes to: an instruction, and the place where the line ends; or a refusal's number.
-#[derive(Drop)]
+#[derive(Clone, Copy)]
 pub enum Decoded {
     Instruction(Instruction, usize),
     Refused(u8),
 }
 
 // What a block is judged to be: of a kind, with its G90 or G91, or a refusal's number.
-#[derive(Drop)]
+#[derive(Clone, Copy)]
 pub enum Judged {
     Of(Kind, Measure),
     Refused(u8),

@@ -4,7 +4,7 @@ ghost use Rattle.aries.specs.Entries.{mode_number, stop_number, numbers_of};
 use crate::point::Point;
 
 // A hit: where, with which tool, and whether in mode N (nibble).
-#[derive(Drop)]
+#[derive(Clone, Copy)]
 pub struct Hit {
     pub place: Point,
     pub tool: u8,
@@ -12,7 +12,7 @@ pub struct Hit {
 }
 
 // The numbers of an entry in the list.
-#[derive(Drop)]
+#[derive(Clone, Copy)]
 pub struct Numbers {
     pub x: i32,
     pub y: i32,
@@ -21,7 +21,7 @@ pub struct Numbers {
 }
 
 // An entry of the list.
-#[derive(Drop)]
+#[derive(Clone, Copy)]
 pub enum Entry {
     // a hit
     Hit(Hit),

@@ -7,7 +7,7 @@ use crate::reader::Setting;
 pub const NUMBERS: usize = 4;
 
 // What the caller fixes for a whole text: the decimal point setting, and the places of the lent list.
-#[derive(Drop)]
+#[derive(Clone, Copy)]
 pub struct Job {
     pub setting: Setting,
     pub places: usize,

@@ -5,14 +5,14 @@ ghost use Rattle.aries.specs.WidePoints.{point_of};
 use crate::point::{Point, WidePoint};
 
 // The press: ARIES-222 or ARIES-224.
-#[derive(Drop)]
+#[derive(Clone, Copy)]
 pub enum Machine {
     Aries222,
     Aries224,
 }
 
 // The machine that a G92 pair names, if any.
-#[derive(Drop)]
+#[derive(Clone, Copy)]
 pub enum Named {
     As(Machine),
     Neither,

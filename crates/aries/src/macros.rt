@@ -6,7 +6,7 @@ pub const SLOTS: usize = 90;
 
 // The stored bodies, by macro number: where each starts and ends in the text without spaces, and the line of its
 // start. Line 0 says that nothing is stored.
-#[derive(Drop)]
+#[derive(Clone, Copy)]
 pub struct Macros {
     pub start: [u16; SLOTS],
     pub end: [u16; SLOTS],
@@ -14,7 +14,7 @@ pub struct Macros {
 }
 
 // A stored body: where it starts and ends, and the line of its start.
-#[derive(Drop)]
+#[derive(Clone, Copy)]
 pub enum Found {
     Body(usize, usize, u16),
     Nothing,

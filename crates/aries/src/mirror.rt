@@ -7,7 +7,7 @@ ghost use Rattle.aries.specs.Steady.{span_limit};
 use crate::point::Point;
 
 // How one axis is seen after all mirrors that are open, measured from the origin: x at span + x or, flipped, at span - x.
-#[derive(Drop)]
+#[derive(Clone, Copy)]
 pub struct Facing {
     pub flipped: bool,
     pub span: i32,
@@ -66,7 +66,7 @@ impl Facing {
 }
 
 // How both axes are seen.
-#[derive(Drop)]
+#[derive(Clone, Copy)]
 pub struct Mirror {
     pub x: Facing,
     pub y: Facing,

@@ -5,21 +5,21 @@ ghost use Rattle.aries.specs.WidePoints.{point_of, located};
 pub const FARTHEST: u32 = 999_999;
 
 // A point of the sheet in G92 coordinates, in hundredths of a millimetre.
-#[derive(Drop)]
+#[derive(Clone, Copy)]
 pub struct Point {
     pub x: i32,
     pub y: i32,
 }
 
 // A point as it is computed, before anything is judged of it.
-#[derive(Drop)]
+#[derive(Clone, Copy)]
 pub struct WidePoint {
     pub x: i64,
     pub y: i64,
 }
 
 // A place, judged by 15.
-#[derive(Drop)]
+#[derive(Clone, Copy)]
 pub enum Located {
     At(Point),
     TooFar,

@@ -3,7 +3,7 @@ ghost use Rattle.aries.specs.Reader.{setting_of};
 
 // The decimal point setting: what a length or an angle without a point counts, hundredths at 1, whole millimetres and degrees
 // at 0.
-#[derive(Drop)]
+#[derive(Clone, Copy)]
 pub enum Setting {
     Hundredths,
     Millimetres,
@@ -23,14 +23,14 @@ impl Setting {
 }
 
 // Whether a G73 has given its X, and its Y.
-#[derive(Drop)]
+#[derive(Clone, Copy)]
 pub struct Given {
     pub x: bool,
     pub y: bool,
 }
 
 // What a block is read by, besides its words: the setting, and which letters a G73 has given.
-#[derive(Drop)]
+#[derive(Clone, Copy)]
 pub struct Reader {
     pub setting: Setting,
     pub given: Given,

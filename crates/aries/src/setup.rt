@@ -13,7 +13,7 @@ use crate::point::Point;
 use crate::state::{Frame, Progress, Status};
 
 // Whether G98 is in force.
-#[derive(Drop)]
+#[derive(Clone, Copy)]
 pub enum Sheet {
     Plain,
     LaidOut(Layout),
@@ -32,7 +32,7 @@ impl Sheet {
 }
 
 // What G92, G93 and G98 set up for a job. The origin is reference plus offset.
-#[derive(Drop)]
+#[derive(Clone, Copy)]
 pub struct Setup {
     pub job: Job,
     pub machine: Machine,
@@ -107,7 +107,7 @@ impl Setup {
 }
 
 // How far a program has come: no G92 yet, running, between a U line and its V line, or past G50.
-#[derive(Drop)]
+#[derive(Clone, Copy)]
 pub enum Stage {
     Fresh,
     Running,
@@ -116,7 +116,7 @@ pub enum Stage {
 }
 
 // A program under way.
-#[derive(Drop)]
+#[derive(Clone, Copy)]
 pub struct Program {
     pub stage: Stage,
     pub setup: Setup,
@@ -142,7 +142,7 @@ impl Program {
 }
 
 // What a line of the program leaves. After a refusal the program is of no account.
-#[derive(Drop)]
+#[derive(Clone, Copy)]
 pub struct Advance {
     pub status: Status,
     pub program: Program,

@@ -33,26 +33,26 @@ use crate::point::{Point, WidePoint};
 use crate::reader::{Given, Reader};
 
 // The pattern origin that G72 set and no pattern has used up yet.
-#[derive(Drop)]
+#[derive(Clone, Copy)]
 pub enum Waiting {
     Unset,
     At(Point),
 }
 
 // What waits, as a part of the state that is replaced as a whole.
-#[derive(Drop)]
+#[derive(Clone, Copy)]
 pub struct Pending {
     pub origin: Waiting,
 }
 
 // A pattern memory.
-#[derive(Drop)]
+#[derive(Clone, Copy)]
 pub enum Stored {
     Empty,
     Kept(Pattern),
 }
 
-#[derive(Drop)]
+#[derive(Clone, Copy)]
 pub struct Memory {
     pub stored: Stored,
 }
@@ -62,7 +62,7 @@ pub const MEMORIES: usize = 5;
 
 // The punching state: what a block of a body leaves to the next. A tool of 0 is none chosen. The memories, most of its
 // bytes, stand first, where they are copied aligned. Spans are X and Y as G73 blocks have given them last, and zero before.
-#[derive(Drop)]
+#[derive(Clone, Copy)]
 pub struct State {
     pub memories: [Memory; MEMORIES],
     pub current: Point,
@@ -234,7 +234,7 @@ impl State {
 
 // What a block is carried out in: the caller's job, where X and Y are measured from, the machine whose range is judged, and
 // how points are seen in the mirrors that are open.
-#[derive(Drop)]
+#[derive(Clone, Copy)]
 pub struct Frame {
     pub job: Job,
     pub machine: Machine,
@@ -299,7 +299,7 @@ impl Frame {
 }
 
 // A state with the count of blocks carried out and of entries made so far.
-#[derive(Drop)]
+#[derive(Clone, Copy)]
 pub struct Progress {
     pub state: State,
     pub blocks: u32,
@@ -343,14 +343,14 @@ impl Progress {
 }
 
 // Whether all went well, or a refusal's number and line.
-#[derive(Drop)]
+#[derive(Clone, Copy)]
 pub enum Status {
     Passed,
     Refused(u8, u64),
 }
 
 // What carrying something out leaves. After a refusal the progress is of no account.
-#[derive(Drop)]
+#[derive(Clone, Copy)]
 pub struct Outcome {
     pub status: Status,
     pub progress: Progress,

@@ -1,4 +1,5 @@
 // Bodies: the blocks of a body, and the calls among them.
+#![tactic(auto)]
 ghost use Rattle.std.specs.Prelude.{◌≡◌, cond, ltb, drop};
 ghost use Rattle.aries.specs.Macros.{bodies_of, call, carry_call, run_lines};
 ghost use Rattle.aries.specs.Runs.{lent_both, Carried};
@@ -24,7 +25,7 @@ pub const MOST_CALLS: u8 = 4;
 pub const FURTHER_CALLS: u8 = 3;
 
 // A place of a body between two lines, and the number of the line there.
-#[derive(Drop)]
+#[derive(Clone, Copy)]
 pub struct Opening {
     pub at: usize,
     pub line: u64,

@@ -1,6 +1,7 @@
 // Runs the golden cases. The arguments are triples: the decimal point setting, the length of the lent list in numbers, and
 // the name of a file. For each triple the program prints the name, the setting and the length, and then the listing or the
 // refusal, as hitlist prints it, and a line more if the tally has figures other than zero that these do not show.
+#![tactic(auto)]
 ghost use Rattle.std.specs.Prelude.{◌≤◌, ◌<◌, length};
 ghost use Rattle.aries.specs.Numbers.{last_tool};
 ghost use Rattle.aries.specs.Program.{count_of};
@@ -31,7 +32,7 @@ const MOST: usize = 2_147_483_648;
 const NO_NUMBER: usize = 2_147_483_649;
 
 // What an argument states as the setting.
-#[derive(Drop)]
+#[derive(Clone, Copy)]
 enum Stated {
     Setting(i32),
     Nothing,

@@ -17,7 +17,7 @@ const STOP: i32 = 2;
 const OPTIONAL_STOP: i32 = 3;
 
 // A hole: X and Y in hundredths of a millimetre, and the tool that makes it.
-#[derive(Drop)]
+#[derive(Clone, Copy)]
 pub struct Hole {
     pub x: i32,
     pub y: i32,

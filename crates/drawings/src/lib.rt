@@ -1,5 +1,6 @@
 // A list against a drawing: whether its hits are the holes of the drawing's table, and whether a hit is made twice. A list
 // is handed over without what is left of it past its entries, and a table without what is left of it past its rows.
+#![tactic(auto)]
 mod count; // how often a hole stands in a table and in a list
 mod hole; // holes, in a table and in a list
 
@@ -15,7 +16,7 @@ use crate::hole::{ENTRY, Hole, ROW, is_hit, is_in_entry, place_at, row_at};
 
 // What a list comes to against a table: they agree; or a row, counted from 1, that stands in the table more often than in
 // the list; or an entry, counted from 1, that stands in the list more often than in the table.
-#[derive(Drop)]
+#[derive(Clone, Copy)]
 pub enum Checked {
     Agree,
     Missing(usize),
@@ -23,7 +24,7 @@ pub enum Checked {
 }
 
 // An entry that makes a hole which an earlier one has made, with the index of that one.
-#[derive(Drop)]
+#[derive(Clone, Copy)]
 pub enum Repeat {
     Nothing,
     Entry(usize, usize),

@@ -8,7 +8,7 @@ use libc::EINTR;
 pub const MOST_TRIES: u32 = 100;
 
 // What reading comes to: how many bytes there are, and whether it was a failure that ended it.
-#[derive(Drop)]
+#[derive(Clone, Copy)]
 pub struct Received {
     pub count: usize,
     pub is_failed: bool,

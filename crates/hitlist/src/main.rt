@@ -1,5 +1,6 @@
 // Reads a program text from a file or from standard input, and prints the listing of its entries and of the tools used, or
 // its refusal.
+#![tactic(auto)]
 mod input; // reading a text
 mod output; // listings
 

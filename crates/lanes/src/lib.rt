@@ -1,10 +1,11 @@
 // Back and forth through lanes of equal length, place by place: grids and layouts go so.
+#![tactic(auto)]
 ghost use Rattle.std.specs.Prelude.{◌≡◌, suc, ◌≤◌};
 ghost use Rattle.aries.specs.Lanes.{lane, along};
 ghost use Rattle.lanes.specs.Cursors.{cursor_at, passed};
 
 // A place: its lane, and how many places of that lane come before it in the order of counting.
-#[derive(Drop)]
+#[derive(Clone, Copy)]
 pub struct Cursor {
     pub lane: u32,
     pub rest: u16,

@@ -19,7 +19,7 @@ use press::hits;
 use press::hits::Judged;
 
 // What hits are made with: a tool, in mode N (nibble) or P.
-#[derive(Drop)]
+#[derive(Clone, Copy)]
 pub struct Tooling {
     pub tool: u8,
     pub nibble: bool,
@@ -27,7 +27,7 @@ pub struct Tooling {
 
 // How far a series of hits has come: the number of the refusal that ended it, or 0, the last point and the count of entries.
 // With a refusal the point is none that anybody reads.
-#[derive(Drop)]
+#[derive(Clone, Copy)]
 pub struct Reached {
     pub number: u8,
     pub current: Point,

@@ -13,7 +13,7 @@ use aries::refusal;
 use aries::state::{Frame, Outcome, Progress};
 
 // What is judged of a hit: it is made, and this point becomes the current one, or it is refused by a number.
-#[derive(Drop)]
+#[derive(Clone, Copy)]
 pub enum Judged {
     Made(Point),
     Refused(u8),

@@ -4,7 +4,7 @@ ghost use Rattle.sine.specs.Sine.{rounded};
 ghost use Rattle.shears.specs.Fractions.{split, value_of, toward_zero, Reduced};
 
 // A number over a denominator: wholes, and the rest of the numerator, with the same sign.
-#[derive(Drop)]
+#[derive(Clone, Copy)]
 pub struct Fraction {
     pub whole: i64,
     pub rest: i64,

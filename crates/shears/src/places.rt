@@ -12,7 +12,7 @@ use aries::point::{Point, WidePoint};
 use sine::Direction;
 
 // What the hits of a G66 have in common. Along the line they lie at (ahead + step × k - behind) / denominator.
-#[derive(Drop)]
+#[derive(Clone, Copy)]
 pub struct Cut {
     pub hits: u32,
     pub ahead: u64,

@@ -1,4 +1,5 @@
 // Sine and cosine of angles in hundredths of a degree, in units of 10^-9, and the offsets that they give.
+#![tactic(auto)]
 ghost use Rattle.std.specs.Prelude.{◌≡◌, ◌≤◌, ◌<◌, pos, nat_abs, ◌+ℤ◌, ◌-ℤ◌};
 ghost use Rattle.signed.specs.Signed.{wide_limit};
 ghost use Rattle.sine.specs.Series.{
@@ -26,7 +27,7 @@ mod entries;
 use entries::{DEGREE_SINES, HUNDREDTH_COSINES, HUNDREDTH_SINES};
 
 // The cosine and the sine of one angle.
-#[derive(Drop)]
+#[derive(Clone, Copy)]
 pub struct Direction {
     pub cosine: i32,
     pub sine: i32,

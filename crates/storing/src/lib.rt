@@ -1,4 +1,5 @@
 // U lines: where the body ends, its first run, and storing it.
+#![tactic(auto)]
 ghost use Rattle.std.specs.Prelude.{◌≡◌, true, ◌≤◌, ◌<◌, length, drop};
 ghost use Rattle.aries.specs.declared.state.Status.TheVariants.{Passed};
 ghost use Rattle.aries.specs.Bodies.{is_own_close, body_size, runs_first, first_run, with_stored, open_body};
@@ -27,7 +28,7 @@ const MOST_CHARACTERS: usize = 3_100;
 const LAST_RUN: u8 = 59;
 
 // The bytes of a body, if its V line was found.
-#[derive(Drop)]
+#[derive(Clone, Copy)]
 enum Size {
     Bytes(usize),
     Missing,
@@ -125,7 +126,7 @@ fn first_run(
 }
 
 // What a U line leaves. After a refusal all but the status is of no account.
-#[derive(Drop)]
+#[derive(Clone, Copy)]
 pub struct Opened {
     pub status: Status,
     pub macros: Macros,

@@ -1,4 +1,5 @@
 // Direct blocks one after another, in a body and outside bodies.
+#![tactic(auto)]
 ghost use Rattle.std.specs.Prelude.{◌≡◌, drop};
 ghost use Rattle.aries.specs.declared.state.Status.TheVariants.{Passed, Refused};
 ghost use Rattle.aries.specs.Reader.{reader_of};
@@ -26,7 +27,7 @@ const LETTER_V: u8 = b'V';
 
 // What comes after a stretch: nothing, at the end of the text or at a refusal; or a block that is not direct, with the place
 // where its line ends and the number of that line.
-#[derive(Drop)]
+#[derive(Clone, Copy)]
 pub enum Sequel {
     End,
     Call(Call, usize, u64),
@@ -58,7 +59,7 @@ impl Sequel {
 }
 
 // What a stretch leaves. A block that comes after it has begun. After a refusal the progress is of no account.
-#[derive(Drop)]
+#[derive(Clone, Copy)]
 pub struct Stretch {
     pub outcome: Outcome,
     pub sequel: Sequel,
@@ -94,7 +95,7 @@ impl Stretch {
 
 // What a place between two lines leads to: past the line feeds there, the place of a block, the number of its line and what
 // the line comes to; or nothing.
-#[derive(Drop)]
+#[derive(Clone, Copy)]
 pub enum Ahead {
     Nothing,
     Block(usize, u64, Decoded),

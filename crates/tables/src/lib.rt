@@ -1,4 +1,5 @@
 // A drawing's hole table: lines of X, Y and tool, read into three numbers a row.
+#![tactic(auto)]
 mod number; // numbers of a line
 mod row; // a row
 
@@ -12,7 +13,7 @@ use text::line_end;
 const ROW: usize = 3;
 
 // What reading a table comes to: how many rows it has, or the line of the first that is none.
-#[derive(Drop)]
+#[derive(Clone, Copy)]
 pub enum Table {
     Rows(usize),
     Bad(u64),

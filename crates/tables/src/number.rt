@@ -7,14 +7,14 @@ ghost use Rattle.tables.specs.Numbers.{held, field_of, length_at, tool_at};
 use signed::with_sign;
 
 // Digits that were read: their value and how many they are.
-#[derive(Drop)]
+#[derive(Clone, Copy)]
 struct Digits {
     value: u32,
     count: usize,
 }
 
 // A number that was read at a place: whether one stands there, its value and the place past it.
-#[derive(Drop)]
+#[derive(Clone, Copy)]
 pub struct Field {
     pub good: bool,
     pub value: i32,

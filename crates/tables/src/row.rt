@@ -7,7 +7,7 @@ use crate::number::{length_at, tool_at};
 const SPACE: u8 = 32;
 
 // A line that was read: whether it is blank, whether it is a row, and its X, Y and tool.
-#[derive(Drop)]
+#[derive(Clone, Copy)]
 pub struct Row {
     pub blank: bool,
     pub good: bool,

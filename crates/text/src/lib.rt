@@ -1,4 +1,5 @@
 // The bytes of a program text: which are allowed, the text without its spaces, and where its lines end.
+#![tactic(auto)]
 ghost use Rattle.std.specs.Prelude.{◌≡◌, ◌+◌, ◌≤◌, leb, length, drop};
 ghost use Rattle.aries.specs.Test.{every};
 ghost use Rattle.aries.specs.Text.{is_allowed, stray_line, lines};
@@ -10,7 +11,7 @@ const LINE_FEED: u8 = 10;
 const SPACE: u8 = 32;
 
 // What the bytes of a text come to: the line of the first that is not allowed, or how many there are besides spaces.
-#[derive(Drop)]
+#[derive(Clone, Copy)]
 pub enum Cleaned {
     Stray(u64),
     Dense(usize),

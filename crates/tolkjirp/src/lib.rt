@@ -1,4 +1,5 @@
 // The expander of ARIES punch code: from a program text to its list of entries, hits and stops, and their tally by tool.
+#![tactic(auto)]
 pub mod exported; // the function for C and Rust
 
 ghost use Rattle.std.specs.Prelude.{◌≡◌, ◌++◌, ◌+◌, ◌-◌, ◌*◌, ◌≤◌, pos, length, take, replicate};

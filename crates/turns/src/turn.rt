@@ -6,14 +6,14 @@ use aries::setup::{Setup, Stage};
 use aries::state::Progress;
 
 // A block that runs stored bodies: W and G73, or G75 and G76.
-#[derive(Drop)]
+#[derive(Clone, Copy)]
 pub enum Called {
     Macro(Call),
     Part(Copies),
 }
 
 // What comes next in a text.
-#[derive(Drop)]
+#[derive(Clone, Copy)]
 pub enum Next {
     // the lines from a place on, the first with a number
     Line(usize, u64),
@@ -27,7 +27,7 @@ pub enum Next {
 
 // The program between two blocks, but for the stored bodies, and what comes next. After a refusal all else is of no
 // account.
-#[derive(Drop)]
+#[derive(Clone, Copy)]
 pub struct Turn {
     pub stage: Stage,
     pub setup: Setup,

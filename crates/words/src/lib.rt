@@ -1,4 +1,5 @@
 // The words of a block: digits, a word, and all words of a line by their letters.
+#![tactic(auto)]
 ghost use Rattle.std.specs.Prelude.{◌≡◌, cond, ◌&&◌, ◌+◌, ◌*◌, ◌^◌, ◌≤◌, ◌<◌, eqb, pos, drop, get_or, replicate};
 ghost use Rattle.aries.specs.Test.{within};
 ghost use Rattle.aries.specs.Letters.{letter_a};
@@ -16,7 +17,7 @@ use signed::{size, with_sign};
 const LINE_FEED: u8 = 10;
 
 // Digits that were read: their value and how many they are.
-#[derive(Drop)]
+#[derive(Clone, Copy)]
 struct Digits {
     value: u32,
     count: usize,
@@ -24,7 +25,7 @@ struct Digits {
 
 // A number that was read: its value, in hundredths where it has a point, and how many bytes it takes, 0 where there is
 // none.
-#[derive(Drop)]
+#[derive(Clone, Copy)]
 struct Number {
     value: u32,
     pointed: bool,
@@ -32,7 +33,7 @@ struct Number {
 }
 
 // A word that was read: its letter, its form, 0 where there is none, its number and the place past it.
-#[derive(Drop)]
+#[derive(Clone, Copy)]
 struct Reading {
     letter: u8,
     form: u8,
@@ -243,7 +244,7 @@ fn is_pattern_code(code: u32) -> bool
 }
 
 // What is said of the words of a block besides those that are kept by letter.
-#[derive(Drop)]
+#[derive(Clone, Copy)]
 pub struct Summary {
     // every word has its form
     pub formed: bool,
