@@ -33,19 +33,19 @@ module _ (c : tie.Start) where
   sum-in : SFits w64 (c.args.a +ℤ pos c.args.n *ℤ c.args.b)
   sum-in = fits_abs w64 _ 140737488355328 sum-small (lit< tt)
 
-cast-result : tie.Need-overflow-cast-result
+cast-result : tie.Need-overflow_cast-result
 cast-result c = read_wide c.args.a c.ranges.a
 
-cast-result-2 : tie.Need-overflow-cast-result-2
+cast-result-2 : tie.Need-overflow_cast-result-2
 cast-result-2 c = search rules
 
-cast-result-3 : tie.Need-overflow-cast-result-3
+cast-result-3 : tie.Need-overflow_cast-result-3
 cast-result-3 c = read_wide c.args.b c.ranges.b
 
-mul-result : tie.Need-overflow-mul-result
+mul-result : tie.Need-overflow_mul-result
 mul-result c = simp (widened c.args.b c.ranges.b, to_z_pos w64 (n-small c)) (product-in c)
 
-add-result : tie.Need-overflow-add-result
+add-result : tie.Need-overflow_add-result
 add-result c =
     simp (
       widened c.args.a c.ranges.a,
@@ -66,6 +66,6 @@ returns c =
     )
     (refl, le_trans (sum-small c) (lit≤ tt))
 
-pub affine-spec : {M : Type 1} → statement M
-affine-spec =
+pub affine_spec : {M : Type 1} → statement M
+affine_spec =
     tie.close (tie.spec cast-result cast-result-2 cast-result-3 mul-result add-result returns)

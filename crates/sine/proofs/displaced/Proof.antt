@@ -40,27 +40,27 @@ module _ (c : tie.Start) where
   sum-wide = fits_abs w64 _ 6759169666 sum-small (lit< tt)
 
 -- the call's result, from the arguments themselves
-offset_is : (c : tie.After-rounded) → c.rounded.result ≡ offset c.before.args.distance c.before.args.sine
+offset_is : (c : tie.After-rounded) → c.rounded.result ≡ offset c.args.distance c.args.sine
 unfolding offset
 offset_is c =
     simp (
-      to_z-of_z c.before.ranges.distance,
+      to_z-of_z c.ranges.distance,
       to_z-of_z (distance-wide c.before),
-      to_z-of_z c.before.ranges.sine,
+      to_z-of_z c.ranges.sine,
       to_z-of_z (sine-wide c.before),
       to_z-of_z (product_wide c.before),
     ) at c.rounded.ensures
 
-cast-result : tie.Need-overflow-cast-result
+cast-result : tie.Need-overflow_cast-result
 cast-result c = simp (to_z-of_z c.ranges.start) (start-wide c)
 
-cast-rounded : tie.Need-overflow-cast-rounded
+cast-rounded : tie.Need-overflow_cast-distance
 cast-rounded c = simp (to_z-of_z c.ranges.distance) (distance-wide c)
 
-cast-rounded-2 : tie.Need-overflow-cast-rounded-2
+cast-rounded-2 : tie.Need-overflow_cast-sine
 cast-rounded-2 c = simp (to_z-of_z c.ranges.sine) (sine-wide c)
 
-mul-rounded : tie.Need-overflow-mul-rounded
+mul-rounded : tie.Need-overflow_mul-distance
 mul-rounded c =
     simp (to_z-of_z c.ranges.distance, to_z-of_z (distance-wide c), to_z-of_z c.ranges.sine, to_z-of_z (sine-wide c))
     (product_wide c)
@@ -76,26 +76,26 @@ rounded-requires c κs =
     )
     (le_trans (product_small c) (lit≤ tt))
 
-add-result : tie.Need-overflow-add-result
+add-result : tie.Need-overflow_add-result
 add-result c =
     simp (
-      to_z-of_z c.before.ranges.start,
+      to_z-of_z c.ranges.start,
       to_z-of_z (start-wide c.before),
-      read_back w64 c.rounded.result c.rounded.type-inv,
+      read_back w64 c.rounded.result c.rounded.type_inv,
     )
     (simp (offset_is c) (sum-wide c.before))
 
 returns : tie.Need-returns
 returns c =
     simp (
-      to_z-of_z c.before.ranges.start,
+      to_z-of_z c.ranges.start,
       to_z-of_z (start-wide c.before),
-      read_back w64 c.rounded.result c.rounded.type-inv,
+      read_back w64 c.rounded.result c.rounded.type_inv,
     )
     (simp (offset_is c, to_z-of_z (sum-wide c.before)) (refl, le_trans (sum-small c.before) (lit≤ tt)))
 
-pub displaced-spec : {M : Type 1} → statement M
-displaced-spec =
+pub displaced_spec : {M : Type 1} → statement M
+displaced_spec =
     tie.close
     (tie.spec
     cast-result
