@@ -11,33 +11,20 @@ use lib.Dec.{leb}
 use lib.ListN.{length, drop, length-drop}
 use Rattle.text.specs.Lines.{blanks}
 use Rattle.text.proofs.Lines.{blanks-short, feeds_blanks}
-use Rattle.text.proofs.are_eight_feeds.Statement.{statement}
-use Rattle.text.proofs.are_eight_feeds.Tie as tie
+use Rattle.text.proofs.are_eight_feeds.Goals as goal
 
 -- fewer than eight bytes from a place on
 few : (t : List ℕ) (i : ℕ) → length t < i + 8 → false ≡ leb 8 (blanks (drop i t))
 few t i h = sym (lt-leb 8 (blanks (drop i t)) (omega (arith, blanks-short (drop i t), length-drop i t)))
 
-returns : tie.Need-returns
-returns c = few c.before.args.text.now c.before.args.at (omega arith)
+pub returns-then-text-lt8 : goal.returns-then-text-lt8
+returns-then-text-lt8 c = few c.args.text.now c.args.at (omega arith)
 
-returns-2 : tie.Need-returns-2
-returns-2 c = few c.before.before.args.text.now c.before.before.args.at (omega arith)
+pub returns-then-text-at : goal.returns-then-text-at
+returns-then-text-at c = few c.args.text.now c.args.at (omega arith)
 
-returns-3 : tie.Need-returns-3
-returns-3 c =
+pub returns : goal.returns
+returns c =
     let read = c.before.before.before.before.before in
     let start = read.before.before.before.before.before in
     feeds_blanks start.args.text.now start.args.at 7 (omega arith)
-
-pub are-eight-feeds-spec : {M : Type 1} → statement M
-are-eight-feeds-spec =
-    tie.close
-    (tie.spec
-    returns
-    (λ c. search rules)
-    returns-2
-    (λ c. search rules) (λ c. search rules) (λ c. search rules) (λ c. search rules) (λ c. search rules)
-    (λ c. search rules) (λ c. search rules) (λ c. search rules) (λ c. search rules) (λ c. search rules)
-    (λ c. search rules) (λ c. search rules) (λ c. search rules) (λ c. search rules) (λ c. search rules)
-    returns-3)

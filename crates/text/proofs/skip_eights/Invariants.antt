@@ -1,0 +1,16 @@
+-- The invariant: the next block lies where it lay from the start. Assumes nothing.
+use mathlib.Core.Path.{◌≡◌, sym, ◌∙◌}
+use Prim.Native.Nat.{◌+◌, ◌-◌, ◌≤◌}
+use native.Mathlib.Omega.{arith}
+use lib.ListN.{length, drop, length-drop}
+use borrow.Author.Rules.{rules}
+use borrow.Author.Tests.{leb-true}
+use Rattle.text.specs.Lines.{blanks}
+use Rattle.text.proofs.Lines.{blanks-short, blanks-drop}
+use Rattle.text.proofs.skip_eights.Given as goal
+
+abbrev pub invariant-loop-i : goal.invariant-loop-i
+invariant-loop-i l = l.i + blanks (drop l.i l.text) ≡ l.from + blanks (drop l.from l.text)
+
+abbrev pub decreases-loop-i : goal.decreases-loop-i
+decreases-loop-i l = length l.text - l.i
