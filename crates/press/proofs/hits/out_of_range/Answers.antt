@@ -1,0 +1,25 @@
+-- What 15 makes of the place tells the two apart. Assumes nothing.
+use mathlib.Core.Path.{sym, ◌∙◌}
+use Rattle.aries.specs.WidePoints.{point_of}
+use Rattle.aries.proofs.WidePoints.{located-at, located_far}
+use borrow.Author.Rules.{rules}
+use Rattle.press.proofs.hits.out_of_range.Goals as goal
+
+pub located-located-requires : goal.located-located-requires
+located-located-requires c = search rules
+
+pub enum_told-1 : goal.enum_told-1
+enum_told-1 c = search rules
+
+pub enum_told-in-TooFar : goal.enum_told-in-TooFar
+enum_told-in-TooFar c = search rules
+
+pub returns-in-At : goal.returns-in-At
+returns-in-At c =
+    let d = c in
+    simp (located-at (point_of d.args.place) c.in-At.field-0 (sym c.in-At.is ∙ d.located-located.ensures)).0
+
+pub returns-in-TooFar : goal.returns-in-TooFar
+returns-in-TooFar c =
+    let d = c in
+    simp (located_far (point_of d.args.place) (sym c.in-TooFar.is ∙ d.located-located.ensures))
