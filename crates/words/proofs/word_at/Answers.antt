@@ -8,20 +8,12 @@ use mir.Syntax.{w32}
 use mir.Val.{to_z, of_z}
 use borrow.Author.Rules.{rules}
 use Rattle.words.proofs.Keeping.{letters-at}
-use Rattle.words.proofs.word_at.Statement.{statement}
-use Rattle.words.proofs.word_at.Tie as tie
+use Rattle.words.proofs.word_at.Goals as goal
 
-returns : tie.Need-returns
+pub returns : goal.returns
 returns c =
-    let a = c.before.before.before.args in
+    let a = c.args in
     let i = a.letter - 65 in
     let back : to_z w32 (of_z w32 (get_or a.numbers.now i (pos 0))) ≡ get_or a.numbers.now i (pos 0) = search rules in
     let inside : i < 26 = search rules in
     simp back at c.word_in.ensures ∙ sym (letters-at a.forms.now a.numbers.now i inside)
-
-pub word-at-spec : {M : Type 1} → statement M
-word-at-spec =
-    tie.close
-    (tie.spec
-    (search rules) (search rules) (search rules) (search rules) (search rules) (search rules)
-    returns)
