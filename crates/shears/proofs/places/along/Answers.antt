@@ -7,13 +7,12 @@ use lib.IntN.{pos}
 use mir.Syntax.{w64}
 use mir.Val.{SFits, to_z}
 use mir.Facts.{to_z-of_z, to_z_pos}
-use borrow.Author.Rules.{rules}
 use Rattle.signed.proofs.Integers.{abs_minus, fits_abs}
 use Rattle.shears.specs.Cuts.{along_cut}
-use Rattle.shears.proofs.places.along.Statement.{statement}
-use Rattle.shears.proofs.places.along.Tie as tie
+use Rattle.shears.proofs.places.along.Goals.{Start}
+use Rattle.shears.proofs.places.along.Goals as goal
 
-module _ (c : tie.Start) where
+module _ (c : Start) where
   ahead-is : to_z w64 (c.args.cut.ahead + c.args.cut.step * c.args.k) ≡ pos (c.args.cut.ahead + c.args.cut.step * c.args.k)
   ahead-is = let h : c.args.cut.ahead + c.args.cut.step * c.args.k < 2 ^ 63 = omega (arith, c.requires.ahead) in to_z_pos w64 h
 
@@ -26,27 +25,8 @@ module _ (c : tie.Start) where
       (abs_minus (c.args.cut.ahead + c.args.cut.step * c.args.k) c.args.cut.behind 4000000000000000000 (omega (arith, c.requires.ahead)) (omega (arith, c.requires.behind)))
       (lit< tt)
 
-mul-ahead : tie.Need-overflow-mul-ahead
-mul-ahead c = search rules
+pub overflow_sub-ahead : goal.overflow_sub-ahead
+overflow_sub-ahead c = let s = (goal.at.overflow_sub-ahead c).Start in rw (ahead-is s, behind-is s) (along-fits s)
 
-add-ahead : tie.Need-overflow-add-ahead
-add-ahead c = search rules
-
-cast-ahead : tie.Need-overflow-cast-ahead
-cast-ahead c = search rules
-
-cast-split : tie.Need-overflow-cast-split
-cast-split c = search rules
-
-sub-split : tie.Need-overflow-sub-split
-sub-split c = let s = c.before.before.before in rw (ahead-is s, behind-is s) (along-fits s)
-
-split-requires : tie.Need-split-requires
-split-requires c κs = search rules
-
-returns : tie.Need-returns
-returns c = let s = c.before.before.before.before in rw (ahead-is s, behind-is s, to_z-of_z (along-fits s)) at c.split.ensures
-
-pub along-spec : {M : Type 1} → statement M
-along-spec =
-    tie.close (tie.spec mul-ahead add-ahead cast-ahead cast-split sub-split split-requires returns)
+pub returns : goal.returns
+returns c = let s = (goal.at.returns c).Start in rw (ahead-is s, behind-is s, to_z-of_z (along-fits s)) at c.split.ensures

@@ -8,12 +8,11 @@ use lib.Signed.{quot_z, rem_z, mag_rem}
 use mir.Syntax.{w64}
 use mir.Val.{SFits, to_z}
 use mir.Facts.{to_z-of_z, to_z_pos}
-use borrow.Author.Rules.{rules}
 use Rattle.signed.proofs.Integers.{mag_quotient}
-use Rattle.shears.proofs.fractions.split.Statement.{statement}
-use Rattle.shears.proofs.fractions.split.Tie as tie
+use Rattle.shears.proofs.fractions.split.Goals.{Start}
+use Rattle.shears.proofs.fractions.split.Goals as goal
 
-module _ (c : tie.Start) where
+module _ (c : Start) where
   divisor-is : to_z w64 c.args.denominator ≡ pos c.args.denominator
   divisor-is = let h : c.args.denominator < 2 ^ 63 = omega arith in to_z_pos w64 h
 
@@ -23,17 +22,11 @@ module _ (c : tie.Start) where
   rest-fits : SFits w64 (rem_z c.args.numerator (pos c.args.denominator))
   rest-fits = record { sfits = lt_of_le_of_lt (mag_rem c.args.numerator (pos c.args.denominator)) c.ranges.numerator.sfits }
 
-cast-divisor : tie.Need-overflow-cast-divisor
-cast-divisor c = search rules
+pub nonzero_div-result : goal.nonzero_div-result
+nonzero_div-result c = (c.requires, simp (to_z-of_z c.ranges.numerator, divisor-is c) (whole-fits c))
 
-div-t4 : tie.Need-nonzero-div-t4
-div-t4 c = (c.requires, simp (to_z-of_z c.ranges.numerator, divisor-is c) (whole-fits c))
+pub nonzero_rem-result : goal.nonzero_rem-result
+nonzero_rem-result c = (c.requires, simp (to_z-of_z c.ranges.numerator, divisor-is c) (whole-fits c))
 
-rem-t5 : tie.Need-nonzero-rem-t5
-rem-t5 c = (c.requires, simp (to_z-of_z c.ranges.numerator, divisor-is c) (whole-fits c))
-
-returns : tie.Need-returns
+pub returns : goal.returns
 returns c = simp (to_z-of_z c.ranges.numerator, divisor-is c, to_z-of_z (whole-fits c), to_z-of_z (rest-fits c))
-
-pub split-spec : {M : Type 1} → statement M
-split-spec = tie.close (tie.spec cast-divisor div-t4 rem-t5 returns)

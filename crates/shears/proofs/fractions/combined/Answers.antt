@@ -6,10 +6,10 @@ use mir.Val.{SFits}
 use mir.Facts.{to_z-of_z}
 use Rattle.signed.proofs.Integers.{wide, abs_add, abs_mul, fits_abs}
 use Rattle.sine.specs.Series.{one}
-use Rattle.shears.proofs.fractions.combined.Statement.{statement}
-use Rattle.shears.proofs.fractions.combined.Tie as tie
+use Rattle.shears.proofs.fractions.combined.Goals.{Start}
+use Rattle.shears.proofs.fractions.combined.Goals as goal
 
-module _ (c : tie.Start) where
+module _ (c : Start) where
   p-wide : SFits w64 c.args.p
   p-wide = wide c.args.p c.ranges.p
 
@@ -17,33 +17,33 @@ module _ (c : tie.Start) where
   q-wide = wide c.args.q c.ranges.q
 
   first_fits : SFits w64 (c.args.a *ℤ c.args.p)
-  first_fits = fits_abs w64 (c.args.a *ℤ c.args.p) 4294967296000000000 (abs_mul c.args.a c.args.p 4294967296 one c.requires.0.0 c.requires.1.0) (lit< tt)
+  first_fits = fits_abs w64 (c.args.a *ℤ c.args.p) 4294967296000000000 (abs_mul c.args.a c.args.p 4294967296 one c.requires.a_bound.0 c.requires.p_bound.0) (lit< tt)
 
   second_fits : SFits w64 (c.args.b *ℤ c.args.q)
-  second_fits = fits_abs w64 (c.args.b *ℤ c.args.q) 4294967296000000000 (abs_mul c.args.b c.args.q 4294967296 one c.requires.0.1 c.requires.1.1) (lit< tt)
+  second_fits = fits_abs w64 (c.args.b *ℤ c.args.q) 4294967296000000000 (abs_mul c.args.b c.args.q 4294967296 one c.requires.a_bound.1 c.requires.p_bound.1) (lit< tt)
 
   sum_fits : SFits w64 (c.args.a *ℤ c.args.p +ℤ c.args.b *ℤ c.args.q)
   sum_fits =
       fits_abs w64 (c.args.a *ℤ c.args.p +ℤ c.args.b *ℤ c.args.q) 8589934592000000000
       (abs_add (c.args.a *ℤ c.args.p) (c.args.b *ℤ c.args.q) 4294967296000000000 4294967296000000000
-      (abs_mul c.args.a c.args.p 4294967296 one c.requires.0.0 c.requires.1.0)
-      (abs_mul c.args.b c.args.q 4294967296 one c.requires.0.1 c.requires.1.1))
+      (abs_mul c.args.a c.args.p 4294967296 one c.requires.a_bound.0 c.requires.p_bound.0)
+      (abs_mul c.args.b c.args.q 4294967296 one c.requires.a_bound.1 c.requires.p_bound.1))
       (lit< tt)
 
-cast-result : tie.Need-overflow-cast-result
-cast-result c = simp (to_z-of_z c.ranges.p) (p-wide c)
+pub overflow_cast-result : goal.overflow_cast-result
+overflow_cast-result c = simp (to_z-of_z c.ranges.p) (p-wide c)
 
-mul-result : tie.Need-overflow-mul-result
-mul-result c = simp (to_z-of_z c.ranges.a, to_z-of_z c.ranges.p, to_z-of_z (p-wide c)) (first_fits c)
+pub overflow_mul-result : goal.overflow_mul-result
+overflow_mul-result c = simp (to_z-of_z c.ranges.a, to_z-of_z c.ranges.p, to_z-of_z (p-wide c)) (first_fits c)
 
-cast-result-2 : tie.Need-overflow-cast-result-2
-cast-result-2 c = simp (to_z-of_z c.ranges.q) (q-wide c)
+pub overflow_cast-result-2 : goal.overflow_cast-result-2
+overflow_cast-result-2 c = simp (to_z-of_z c.ranges.q) (q-wide c)
 
-mul-result-2 : tie.Need-overflow-mul-result-2
-mul-result-2 c = simp (to_z-of_z c.ranges.b, to_z-of_z c.ranges.q, to_z-of_z (q-wide c)) (second_fits c)
+pub overflow_mul-result-2 : goal.overflow_mul-result-2
+overflow_mul-result-2 c = simp (to_z-of_z c.ranges.b, to_z-of_z c.ranges.q, to_z-of_z (q-wide c)) (second_fits c)
 
-add-result : tie.Need-overflow-add-result
-add-result c =
+pub overflow_add-result : goal.overflow_add-result
+overflow_add-result c =
     simp (
       to_z-of_z c.ranges.a,
       to_z-of_z c.ranges.p,
@@ -56,7 +56,7 @@ add-result c =
     )
     (sum_fits c)
 
-returns : tie.Need-returns
+pub returns : goal.returns
 returns c =
     simp (
       to_z-of_z c.ranges.a,
@@ -69,7 +69,3 @@ returns c =
       to_z-of_z (second_fits c),
       to_z-of_z (sum_fits c),
     )
-
-pub combined-spec : {M : Type 1} → statement M
-combined-spec =
-    tie.close (tie.spec cast-result mul-result cast-result-2 mul-result-2 add-result returns)
