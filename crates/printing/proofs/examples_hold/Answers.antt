@@ -3,13 +3,8 @@ use mathlib.Core.Path.{refl}
 use Rattle.aries.specs.Text.{bytes}
 use Rattle.printing.specs.Decimals.{digits, decimal, signed_decimal}
 use Rattle.printing.specs.Listing.{lines_of, entry_line, tool_line, head_line, refusal_line, listing}
-use Rattle.printing.specs.Examples.{Examples}
-use Rattle.printing.proofs.examples_hold.Statement.{statement}
-use Rattle.printing.proofs.examples_hold.Tie as tie
+use Rattle.printing.proofs.examples_hold.Goals as goal
 
-returns : tie.Need-returns
+pub returns : goal.returns
 unfolding bytes digits decimal signed_decimal lines_of entry_line tool_line head_line refusal_line listing
 returns c = record { refused = refl; nibbled = refl; empty = refl }
-
-pub examples-hold-spec : {M : Type 1} → statement M
-examples-hold-spec = tie.close (tie.spec returns)

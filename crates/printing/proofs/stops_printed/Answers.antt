@@ -4,12 +4,8 @@ use Rattle.aries.specs.Text.{bytes}
 use Rattle.aries.specs.Program.{expand, list_of, tally_for}
 use Rattle.printing.specs.Decimals.{digits, decimal, signed_decimal}
 use Rattle.printing.specs.Listing.{lines_of, entry_line, tool_line, head_line, listing}
-use Rattle.printing.proofs.stops_printed.Statement.{statement}
-use Rattle.printing.proofs.stops_printed.Tie as tie
+use Rattle.printing.proofs.stops_printed.Goals as goal
 
-returns : tie.Need-returns
+pub returns : goal.returns
 unfolding bytes expand list_of tally_for digits decimal signed_decimal lines_of entry_line tool_line head_line listing
 returns c = refl
-
-pub stops-printed-spec : {M : Type 1} → statement M
-stops-printed-spec = tie.close (tie.spec returns)
