@@ -4,7 +4,7 @@
 #![tactic(auto)]
 
 ghost use Rattle.std.specs.Prelude.{◌≤◌, ◌<◌, length, IfOk};
-ghost use Rattle.io.specs.Counts.{IsPrefixLen};
+ghost use Rattle.std.specs.Counts.{IsPrefixLen};
 ghost use Rattle.aries.specs.Numbers.{last_tool};
 ghost use Rattle.aries.specs.Program.{count_of};
 ghost use Rattle.printing.specs.Listing.{listing_room};

@@ -1,6 +1,6 @@
 // Reading a text.
 ghost use Rattle.std.specs.Prelude.{◌≤◌, length, IfOk};
-ghost use Rattle.io.specs.Counts.{IsPrefixLen};
+ghost use Rattle.std.specs.Counts.{IsPrefixLen};
 
 use std::io;
 use std::io::{ErrorKind, Read};
