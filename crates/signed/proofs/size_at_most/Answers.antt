@@ -32,9 +32,6 @@ below : (c : Else-limit-a) → le_z (neg_ℤ (pos c.args.n)) c.args.a ≡ false
 below c =
     simp (to_z_pos w64 (n-small c.before), zero_minus, to_z-of_z (fits c.before), to_z-of_z c.ranges.a) at c.if-limit-a.false
 
-pub overflow_cast-limit : goal.overflow_cast-limit
-overflow_cast-limit c = search rules
-
 pub overflow_sub-limit : goal.overflow_sub-limit
 overflow_sub-limit c = simp (to_z_pos w64 (n-small c), zero_minus) (fits c)
 

@@ -27,5 +27,3 @@ nearest-requires c = omega (arith, first c, second c)
 pub overflow_cast-result : goal.overflow_cast-result
 overflow_cast-result c = omega (arith, first c.before, second c.before)
 
-pub returns : goal.returns
-returns c = search rules
