@@ -23,6 +23,7 @@ module _ (c : Start) where
   fits =
       let h : c.args.n ≤ 4294967295 = omega arith in
       fits_abs w64 (neg_ℤ (pos c.args.n)) 4294967295 (rw (abs_neg (pos c.args.n)) h) (lit< tt)
+
 -- the first test, of the numbers themselves
 above : (c : Then-limit-a) → le_z (neg_ℤ (pos c.args.n)) c.args.a ≡ true
 above c =

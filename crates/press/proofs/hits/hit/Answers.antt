@@ -41,7 +41,6 @@ has-tool c = lt-ltb 0 (start c).args.tool (omega arith)
 -- 15 or 16, out of the range
 which : (n : Bool) → Refused (cond n 16 15) ≡ cond n (Refused 16) (Refused 15)
 which true = refl
-
 which false = refl
 
 -- the tests, of where it is seen

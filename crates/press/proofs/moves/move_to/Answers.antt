@@ -67,7 +67,6 @@ judging n c line rest = do
 which : (n : Bool) (line : ℕ) (rest : Out (Made Progress)) → judging n false line rest ≡ refused (cond n 16 15) line
 unfolding judging
 which true line rest = refl
-
 which false line rest = refl
 
 pub seen-seen-requires : goal.seen-seen-requires
