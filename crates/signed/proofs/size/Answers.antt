@@ -1,5 +1,4 @@
 -- A negative number is turned round at 64 bits, where its opposite fits; any other is its own size. Assumes nothing.
-use borrow.Author.Rules.{rules}
 use mathlib.Core.Path.{◌≡◌}
 use mathlib.Core.Bool.{true, false}
 use lib.Dec.{lit<}

@@ -1,5 +1,4 @@
 -- The size lies in the lower half of 32 bits, and so does its opposite. Assumes nothing.
-use borrow.Author.Rules.{rules}
 use native.Mathlib.Omega.{arith}
 use Prim.Native.Nat.{◌<◌, ◌^◌}
 use lib.Dec.{lit<}

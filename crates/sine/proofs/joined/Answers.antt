@@ -1,5 +1,4 @@
 -- Each product is at most 10^18, so that their sum fits and its quotient is at most 2 × 10^9. Assumes nothing.
-use borrow.Author.Rules.{rules}
 use Prim.Native.Nat.{◌*◌, ◌≤◌}
 use native.Mathlib.Nat.{mul-le-mul}
 use native.Mathlib.Omega.{arith}
