@@ -2,13 +2,19 @@
 // the name of a file. For each triple the program prints the name, the setting and the length, and then the listing or the
 // refusal, as hitlist prints it, and a line more if the tally has figures other than zero that these do not show.
 #![tactic(auto)]
-ghost use Rattle.std.specs.Prelude.{◌≤◌, ◌<◌, length};
+
+ghost use Rattle.std.specs.Prelude.{◌≤◌, ◌<◌, length, IfOk};
+ghost use Rattle.std.specs.Counts.{IsPrefixLen};
 ghost use Rattle.aries.specs.Numbers.{last_tool};
 ghost use Rattle.aries.specs.Program.{count_of};
 ghost use Rattle.printing.specs.Listing.{listing_room};
 
 use aries::answer::Answer;
-use libc::STDOUT_FILENO;
+use std::env::FillError;
+use std::fs::File;
+use std::io::Read;
+use std::rt::{Env, Files};
+use std::{io, str};
 use tallies::{FIGURES, LAST_TOOL, TOOL_FIGURES};
 
 // What is read of a file: one byte more than a text may have is enough to refuse it.
@@ -19,6 +25,9 @@ const NUMBERS: usize = 16_384;
 
 // The longest listing: 72 bytes for the head, for each of 4,096 entries and for each of 99 tools.
 const LISTING: usize = 302_112;
+
+// The room for an argument. The system takes no longer name of a file.
+const ARGUMENT: usize = 4_096;
 
 // What a tally is full of when it is lent: it makes no difference what that is.
 const STALE: u64 = 7;
@@ -39,19 +48,30 @@ enum Stated {
 }
 
 // Prints a listing, or a refusal, through a buffer.
-fn print_through(out: &mut [u8], list: &[i32], tally: &[u64; FIGURES], answer: Answer)
+fn print_through(
+    rt: &impl Print,
+    out: &mut [u8],
+    list: &[i32],
+    tally: &[u64; FIGURES],
+    answer: Answer,
+) -> io::Result<()>
     requires { listing_room answer ≤ length out.old }
 {
     let start = printing::render(out, list, tally, answer);
-    io::write_all(STDOUT_FILENO, &out[start..]);
+    rt.write_all(&out[start..])
 }
 
 // Prints a listing of up to 4,096 entries, or a refusal.
-fn print_listing(list: &[i32], tally: &[u64; FIGURES], answer: Answer)
+fn print_listing(
+    rt: &impl Print,
+    list: &[i32],
+    tally: &[u64; FIGURES],
+    answer: Answer,
+) -> io::Result<()>
     requires { count_of answer ≤ 4096 }
 {
     let mut out = [0u8; LISTING];
-    print_through(&mut out, list, tally, answer);
+    print_through(rt, &mut out, list, tally, answer)
 }
 
 // Whether a text was accepted.
@@ -87,40 +107,67 @@ fn is_all_shown(tally: &[u64; FIGURES], accepted: bool) -> bool {
 }
 
 // Prints the answer of a text, and a line more if its tally has figures other than zero that the answer does not show.
-fn print_answer(list: &[i32], tally: &[u64; FIGURES], answer: Answer)
+fn print_answer(
+    rt: &impl Print,
+    list: &[i32],
+    tally: &[u64; FIGURES],
+    answer: Answer,
+) -> io::Result<()>
     requires { count_of answer ≤ 4096 }
 {
-    print_listing(list, tally, answer);
+    print_listing(rt, list, tally, answer)?;
     if !is_all_shown(tally, is_accepted(answer)) {
-        io::write_all(STDOUT_FILENO, b"TALLY NOT CLEARED\n");
+        println!(rt; "TALLY NOT CLEARED")?;
     }
+    Ok(())
 }
 
 // Expands a text at a setting into a list and prints the answer.
-fn run(setting: i32, text: &[u8], list: &mut [i32])
+fn run(rt: &impl Print, setting: i32, text: &[u8], list: &mut [i32]) -> io::Result<()>
     requires { length list.old ≤ 16384 }
 {
     let mut tally = [STALE; FIGURES];
     let answer = tolkjirp::expand(setting, text, list, &mut tally);
-    print_answer(list, &tally, answer);
+    print_answer(rt, list, &tally, answer)
 }
 
 // Expands a text into the first so many numbers of a list.
-fn run_within(setting: i32, text: &[u8], list: &mut [i32], numbers: usize)
+fn run_within(
+    rt: &impl Print,
+    setting: i32,
+    text: &[u8],
+    list: &mut [i32],
+    numbers: usize,
+) -> io::Result<()>
     requires numbers_in_bounds { numbers ≤ length list.old }
     requires list_len_bound { length list.old ≤ 16384 }
 {
-    run(setting, text, &mut list[..numbers]);
+    run(rt, setting, text, &mut list[..numbers])
+}
+
+// Reads a file into a buffer until it is full or the file ends, and answers how many bytes there are.
+fn read_full<F: Read>(file: &mut F, buffer: &mut [u8]) -> io::Result<usize>
+    ensures { IfOk result (λ n. IsPrefixLen n buffer.new) }
+{
+    let mut done = 0;
+    while done < buffer.len() {
+        let count = file.read(&mut buffer[done..])?;
+        if count == 0 {
+            return Ok(done);
+        }
+        done += count;
+    }
+    Ok(done)
 }
 
 // Runs the text of an open file at a setting, with a list of so many numbers.
-fn run_text(fd: i32, setting: i32, numbers: usize)
+fn run_text<F: Read>(rt: &impl Print, file: &mut F, setting: i32, numbers: usize) -> io::Result<()>
     requires { numbers ≤ 16384 }
 {
     let mut text = [0u8; MOST_READ];
-    let n = io::read_full(fd, &mut text);
+    let count = read_full(file, &mut text)?;
     let mut list = [0i32; NUMBERS];
-    run_within(setting, &text[..n], &mut list, numbers);
+    run_within(rt, setting, &text[..count], &mut list, numbers)
 }
 
 // The value of a digit; of any other byte, 10.
@@ -169,10 +216,17 @@ fn number(digits: &[u8]) -> usize {
     }
 }
 
+// Puts argument i at the start of a buffer and answers its length: none where it is missing or too long.
+fn argument(rt: &impl Env, i: usize, buffer: &mut [u8]) -> usize
+    ensures { IsPrefixLen result buffer.new }
+{
+    rt.arg(i, buffer).unwrap_or(0)
+}
+
 // The list length that argument i writes; what is no number is longer than the longest list.
-fn length_argument(i: usize) -> usize {
-    let mut digits = io::buffer();
-    let n = os::arg(i, &mut digits);
+fn length_argument(rt: &impl Env, i: usize) -> usize {
+    let mut digits = [0u8; ARGUMENT];
+    let n = argument(rt, i, &mut digits);
     number(&digits[..n])
 }
 
@@ -200,71 +254,68 @@ fn setting_of(word: &[u8]) -> Stated {
 }
 
 // The setting that argument i states.
-fn setting_argument(i: usize) -> Stated {
-    let mut word = io::buffer();
-    let n = os::arg(i, &mut word);
+fn setting_argument(rt: &impl Env, i: usize) -> Stated {
+    let mut word = [0u8; ARGUMENT];
+    let n = argument(rt, i, &mut word);
     setting_of(&word[..n])
 }
 
-// Prints a space and a setting.
-fn print_setting(setting: i32) {
-    if signed::is_negative(setting) {
-        io::write_all(STDOUT_FILENO, b" -");
-    } else {
-        io::write_all(STDOUT_FILENO, b" ");
-    }
-    io::print_decimal(STDOUT_FILENO, signed::size(setting) as u64);
-}
-
-// Runs the text of the file with a name at a setting, with a list of so many numbers.
-fn run_named(name: &[u8], setting: i32, numbers: usize)
+// Runs the text of the file with a name at a setting, with a list of so many numbers. The library opens names in UTF-8
+// alone.
+fn run_named<R: Files + Print>(rt: &R, name: &[u8], setting: i32, numbers: usize) -> io::Result<()>
     requires { numbers ≤ 16384 }
 {
-    let fd = os::open_read(name);
-    if fd < 0 {
-        io::write_all(STDOUT_FILENO, b"MISSING\n");
-        return;
+    let Ok(path) = str::from_utf8(name) else {
+        return println!(rt; "MISSING");
+    };
+    match File::open(rt, path) {
+        Ok(mut file) => run_text(rt, &mut file, setting, numbers),
+        Err(_) => println!(rt; "MISSING"),
     }
-    run_text(fd, setting, numbers);
-    libc::close(fd);
 }
 
 // Prints a setting and a length, and runs the file with a name, unless the length is none.
-fn run_at(name: &[u8], setting: i32, numbers: usize) {
+fn run_at<R: Files + Print>(rt: &R, name: &[u8], setting: i32, numbers: usize) -> io::Result<()> {
     if NUMBERS < numbers {
-        io::write_all(STDOUT_FILENO, b" NO LENGTH\n");
-        return;
+        return println!(rt; " NO LENGTH");
     }
-    print_setting(setting);
-    io::write_all(STDOUT_FILENO, b" ");
-    io::print_decimal(STDOUT_FILENO, numbers as u64);
-    io::write_all(STDOUT_FILENO, b"\n");
-    run_named(name, setting, numbers);
+    println!(rt; " {setting} {numbers}")?;
+    run_named(rt, name, setting, numbers)
 }
 
 // Runs the file that argument `name` names, unless no setting is stated.
-fn run_case(name: usize, stated: Stated, numbers: usize) {
-    let mut path = io::buffer();
-    let n = os::arg(name, &mut path);
-    io::write_all(STDOUT_FILENO, &path[..n]);
+fn run_case<R: Env + Files + Print>(
+    rt: &R,
+    name: usize,
+    stated: Stated,
+    numbers: usize,
+) -> io::Result<()> {
+    let mut path = [0u8; ARGUMENT];
+    let n = argument(rt, name, &mut path);
+    rt.write_all(&path[..n])?;
     match stated {
-        Stated::Setting(setting) => run_at(&path[..n], setting, numbers),
-        Stated::Nothing => {
-            io::write_all(STDOUT_FILENO, b" NO SETTING\n");
-        }
+        Stated::Setting(setting) => run_at(rt, &path[..n], setting, numbers),
+        Stated::Nothing => println!(rt; " NO SETTING"),
     }
 }
 
-// Argument 0 is the program itself; the triples follow.
-fn main() {
-    let triples = os::arg_count() / 3;
-    let mut i = 0;
-    while i < triples {
+// Whether the program has an argument of this number.
+fn is_given(rt: &impl Env, i: usize) -> bool {
+    !matches!(rt.arg(i, &mut []), Err(FillError::NotPresent))
+}
+
+// Argument 0 is the program itself; the triples follow. A name may be missing at the last.
+fn main(rt: HostRuntime) -> io::Result<()> {
+    for i in 0..usize::MAX / 3 {
+        if !is_given(&rt, 3 * i + 2) {
+            break;
+        }
         run_case(
+            &rt,
             3 * i + 3,
-            setting_argument(3 * i + 1),
-            length_argument(3 * i + 2),
-        );
-        i += 1;
+            setting_argument(&rt, 3 * i + 1),
+            length_argument(&rt, 3 * i + 2),
+        )?;
     }
+    Ok(())
 }

@@ -6,8 +6,5 @@ use mir.Syntax.{w32}
 use mir.Facts.{to_z_pos}
 use Rattle.signed.proofs.of_count.Goals as goal
 
-pub overflow_cast-result : goal.overflow_cast-result
-overflow_cast-result c = search rules
-
 pub returns : goal.returns
 returns c = let h : c.args.n < 2 ^ 31 = omega arith in to_z_pos w32 h

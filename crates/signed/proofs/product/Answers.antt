@@ -16,8 +16,6 @@ module _ (c : Start) where
 
   fits : SFits w64 (pos c.args.n *ℤ c.args.a)
   fits = product_fits (pos c.args.n) c.args.a (count_fits c.args.n (omega arith)) c.ranges.a
-pub overflow_cast-result : goal.overflow_cast-result
-overflow_cast-result c = search rules
 
 pub overflow_cast-result-2 : goal.overflow_cast-result-2
 overflow_cast-result-2 c = read_wide c.args.a c.ranges.a

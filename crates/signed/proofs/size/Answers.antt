@@ -44,6 +44,3 @@ overflow_cast-result-else-a-lt0 c =
 pub returns-then-a-lt0 : goal.returns-then-a-lt0
 returns-then-a-lt0 c =
     simp (widened c.args.a c.ranges.a, zero_minus, to_z-of_z (opposite c.before), abs_neg)
-
-pub returns-else-a-lt0 : goal.returns-else-a-lt0
-returns-else-a-lt0 c = search rules

@@ -23,6 +23,7 @@ module _ (c : Start) where
   fits =
       let h : c.args.n ≤ 4294967295 = omega arith in
       fits_abs w64 (neg_ℤ (pos c.args.n)) 4294967295 (rw (abs_neg (pos c.args.n)) h) (lit< tt)
+
 -- the first test, of the numbers themselves
 above : (c : Then-limit-a) → le_z (neg_ℤ (pos c.args.n)) c.args.a ≡ true
 above c =
@@ -31,9 +32,6 @@ above c =
 below : (c : Else-limit-a) → le_z (neg_ℤ (pos c.args.n)) c.args.a ≡ false
 below c =
     simp (to_z_pos w64 (n-small c.before), zero_minus, to_z-of_z (fits c.before), to_z-of_z c.ranges.a) at c.if-limit-a.false
-
-pub overflow_cast-limit : goal.overflow_cast-limit
-overflow_cast-limit c = search rules
 
 pub overflow_sub-limit : goal.overflow_sub-limit
 overflow_sub-limit c = simp (to_z_pos w64 (n-small c), zero_minus) (fits c)

@@ -17,14 +17,9 @@ module _ (c : Start) where
 
   opposite : SFits w32 (neg_ℤ (pos c.args.n))
   opposite = fits_abs w32 (neg_ℤ (pos c.args.n)) 2147483647 (rw (abs_neg (pos c.args.n)) c.requires) (lit< tt)
-pub overflow_cast-result : goal.overflow_cast-result
-overflow_cast-result c = search rules
 
 pub overflow_sub-result : goal.overflow_sub-result
 overflow_sub-result c = simp (to_z_pos w32 (n-small c.before), zero_minus) (opposite c.before)
-
-pub overflow_cast-result-else-minus : goal.overflow_cast-result-else-minus
-overflow_cast-result-else-minus c = search rules
 
 pub returns-then-minus : goal.returns-then-minus
 returns-then-minus c =

@@ -4,9 +4,6 @@ use mathlib.Core.Path.{sym}
 use Rattle.sine.proofs.Angles.{complement_low, complement_high}
 use Rattle.sine.proofs.complement.Goals as goal
 
-pub overflow_sub-result-else-t-le9000 : goal.overflow_sub-result-else-t-le9000
-overflow_sub-result-else-t-le9000 c = search rules
-
 pub returns-then-t-le9000 : goal.returns-then-t-le9000
 returns-then-t-le9000 c = sym (complement_low c.args.t (search rules))
 

@@ -5,21 +5,6 @@ use Rattle.signed.proofs.Integers.{read_back}
 use borrow.Author.Rules.{rules}
 use Rattle.sine.proofs.direction_at.Goals as goal
 
-pub degree_sines-degrees-requires : goal.degree_sines-degrees-requires
-degree_sines-degrees-requires c = search rules
-
-pub hundredth_sines-sines-requires : goal.hundredth_sines-sines-requires
-hundredth_sines-sines-requires c = search rules
-
-pub hundredth_cosines-cosines-requires : goal.hundredth_cosines-cosines-requires
-hundredth_cosines-cosines-requires c = search rules
-
-pub widen-requires : goal.widen-requires
-widen-requires c = search rules
-
-pub direction_of-requires : goal.direction_of-requires
-direction_of-requires c = search rules
-
 pub returns : goal.returns
 returns c =
     let w = c.before.before.before.before in

@@ -31,9 +31,6 @@ sine-is c =
     read_back w32 c.turn_sine-s.result c.turn_sine-s.type_inv ∙ c.turn_sine-s.ensures
     ∙ ap turn_sine (reduced c.before.before.before)
 
-pub turn-t-requires : goal.turn-t-requires
-turn-t-requires c = search rules
-
 pub complement-requires : goal.complement-requires
 complement-requires c = omega (arith, reduced c, turn_small c.args.angle)
 

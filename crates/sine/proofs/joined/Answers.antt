@@ -12,6 +12,7 @@ module _ (c : Start) where
 
   second : c.args.cosine1 * c.args.sine2 ≤ 1000000000000000000
   second = mul-le-mul c.requires.1.0 c.requires.1.1.0
+
 pub overflow_mul-sum : goal.overflow_mul-sum
 overflow_mul-sum c = omega (arith, first c)
 
@@ -26,6 +27,3 @@ nearest-requires c = omega (arith, first c, second c)
 
 pub overflow_cast-result : goal.overflow_cast-result
 overflow_cast-result c = omega (arith, first c.before, second c.before)
-
-pub returns : goal.returns
-returns c = search rules

@@ -16,9 +16,6 @@ use Rattle.sine.proofs.turn_sine.Goals as goal
 size : (c : After-quadrant_sine) → c.quadrant_sine.result ≡ quadrant_sine (acute c.args.t)
 size c = c.quadrant_sine.ensures ∙ ap quadrant_sine c.acute.ensures
 
-pub acute-requires : goal.acute-requires
-acute-requires c = search rules
-
 pub quadrant_sine-requires : goal.quadrant_sine-requires
 quadrant_sine-requires c =
     record { a_bound = omega (arith, c.acute.ensures, acute-small c.args.t c.requires.t_bound); tables = c.requires.tables }

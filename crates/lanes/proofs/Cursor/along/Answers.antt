@@ -5,9 +5,6 @@ use borrow.Author.Tests.{eq-eqb, ne_eqb}
 use Rattle.lanes.proofs.Cursors.{along-passed}
 use Rattle.lanes.proofs.Cursor.along.Goals as goal
 
-pub overflow_sub-result : goal.overflow_sub-result
-overflow_sub-result c = search rules
-
 pub returns-then-self-eq0 : goal.returns-then-self-eq0
 returns-then-self-eq0 c =
     let a = c.args in

@@ -6,9 +6,6 @@ use Rattle.lanes.specs.declared.Cursor.{Cursor}
 use Rattle.lanes.proofs.Cursors.{next-inside, next-lane}
 use Rattle.lanes.proofs.Cursor.next.Goals as goal
 
-pub overflow_add-result : goal.overflow_add-result
-overflow_add-result c = search rules
-
 pub overflow_add-result-else-rest-last : goal.overflow_add-result-else-rest-last
 overflow_add-result-else-rest-last c =
     let a = c.args in

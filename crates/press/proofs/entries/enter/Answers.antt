@@ -11,12 +11,6 @@ returns-then-job-entries c =
     let none = le-ltb a.entries a.job.places (omega (arith, c.if-job-entries.true)) in
     (sym none, refl)
 
-pub put_entry-requires : goal.put_entry-requires
-put_entry-requires c = search rules
-
-pub shape_of-list : goal.shape_of-list
-shape_of-list c = search rules
-
 pub returns : goal.returns
 returns c =
     let t = c in

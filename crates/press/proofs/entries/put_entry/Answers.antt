@@ -24,50 +24,17 @@ tool-back c = search rules
 mode-back : (c : After-numbers-numbers) → to_z w32 (of_z w32 c.numbers-numbers.result.mode) ≡ c.numbers-numbers.result.mode
 mode-back c = search rules
 
-pub numbers-numbers-requires : goal.numbers-numbers-requires
-numbers-numbers-requires c = search rules
-
-pub overflow_mul-at : goal.overflow_mul-at
-overflow_mul-at c = search rules
-
-pub offset_bounds-list-at : goal.offset_bounds-list-at
-offset_bounds-list-at c = search rules
-
-pub bounds-list-at : goal.bounds-list-at
-bounds-list-at c = search rules
-
-pub overflow_add-y : goal.overflow_add-y
-overflow_add-y c = search rules
-
-pub offset_bounds-list-at-then-k-list : goal.offset_bounds-list-at-then-k-list
-offset_bounds-list-at-then-k-list c = search rules
-
 pub bounds-list-at-then-k-list : goal.bounds-list-at-then-k-list
 bounds-list-at-then-k-list c =
     simp length-set (omega arith)
-
-pub overflow_add-tool : goal.overflow_add-tool
-overflow_add-tool c = search rules
-
-pub offset_bounds-list-at-then-k-list-2 : goal.offset_bounds-list-at-then-k-list-2
-offset_bounds-list-at-then-k-list-2 c = search rules
 
 pub bounds-list-at-then-k-list-2 : goal.bounds-list-at-then-k-list-2
 bounds-list-at-then-k-list-2 c =
     simp length-set (omega arith)
 
-pub overflow_add-mode : goal.overflow_add-mode
-overflow_add-mode c = search rules
-
-pub offset_bounds-list-at-then-k-list-3 : goal.offset_bounds-list-at-then-k-list-3
-offset_bounds-list-at-then-k-list-3 c = search rules
-
 pub bounds-list-at-then-k-list-3 : goal.bounds-list-at-then-k-list-3
 bounds-list-at-then-k-list-3 c =
     simp length-set (omega arith)
-
-pub shape_of-list : goal.shape_of-list
-shape_of-list c = search rules
 
 pub returns-then-k-list : goal.returns-then-k-list
 returns-then-k-list c =

@@ -23,15 +23,6 @@ has-place c = sym c.enter.ensures.0 ∙ c.if-not-enter.false
 places-fit : (c : Start) → c.args.frame.job.places < 18446744073709551616
 places-fit c = omega arith
 
-pub enter-requires : goal.enter-requires
-enter-requires c = search rules
-
-pub refused-requires : goal.refused-requires
-refused-requires c = search rules
-
-pub shape_of-list-then-not-enter : goal.shape_of-list-then-not-enter
-shape_of-list-then-not-enter c = search rules
-
 pub returns-then-not-enter : goal.returns-then-not-enter
 returns-then-not-enter c =
     let f = (goal.at.returns-then-not-enter c).After-enter in
@@ -45,12 +36,6 @@ overflow_add-progress c =
     let s = start e.before.before in
     let a = s.args in
     omega (arith, places-fit s, place_below a.frame.job a.progress.entries (has-place e))
-
-pub passed-requires : goal.passed-requires
-passed-requires c = search rules
-
-pub shape_of-list : goal.shape_of-list
-shape_of-list c = search rules
 
 pub returns : goal.returns
 returns c =

@@ -41,7 +41,6 @@ has-tool c = lt-ltb 0 (start c).args.tool (omega arith)
 -- 15 or 16, out of the range
 which : (n : Bool) → Refused (cond n 16 15) ≡ cond n (Refused 16) (Refused 15)
 which true = refl
-
 which false = refl
 
 -- the tests, of where it is seen
@@ -70,12 +69,6 @@ returns-then-tool-eq0 c =
 pub seen-seen-requires : goal.seen-seen-requires
 seen-seen-requires c = c.requires.moderate
 
-pub covers-requires : goal.covers-requires
-covers-requires c = search rules
-
-pub out_of_range-requires : goal.out_of_range-requires
-out_of_range-requires c = search rules
-
 pub returns-then-not-covers : goal.returns-then-not-covers
 unfolding judged_hit
 returns-then-not-covers c =
@@ -97,12 +90,6 @@ narrow-spot-requires c =
     let n : near p ≡ true = ap near s.seen-seen.ensures ∙ is_near (goal.at.narrow-spot-requires c).Else-not-covers in
     (omega (arith, near-x p n), omega (arith, near-y p n))
 
-pub enter-requires : goal.enter-requires
-enter-requires c = search rules
-
-pub shape_of-list-then-not-enter : goal.shape_of-list-then-not-enter
-shape_of-list-then-not-enter c = search rules
-
 pub returns-then-not-enter : goal.returns-then-not-enter
 unfolding judged_hit
 returns-then-not-enter c =
@@ -112,9 +99,6 @@ returns-then-not-enter c =
       simp (has-tool e.before.before, is_near e, is-inside e, sym f.enter.ensures.0 ∙ none),
       rw none at f.enter.ensures.1,
     )
-
-pub shape_of-list : goal.shape_of-list
-shape_of-list c = search rules
 
 pub returns : goal.returns
 returns c =

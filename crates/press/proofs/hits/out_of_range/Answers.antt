@@ -5,15 +5,6 @@ use Rattle.aries.proofs.WidePoints.{located-at, located_far}
 use borrow.Author.Rules.{rules}
 use Rattle.press.proofs.hits.out_of_range.Goals as goal
 
-pub located-located-requires : goal.located-located-requires
-located-located-requires c = search rules
-
-pub enum_told-1 : goal.enum_told-1
-enum_told-1 c = search rules
-
-pub enum_told-in-TooFar : goal.enum_told-in-TooFar
-enum_told-in-TooFar c = search rules
-
 pub returns-in-At : goal.returns-in-At
 returns-in-At c =
     let d = c in

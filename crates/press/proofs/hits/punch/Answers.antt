@@ -26,32 +26,11 @@ places-fit c = omega arith
 is_made : (c : In-Made) → Made c.in-Made.current ≡ judged_hit (start c.before.before).args.frame (point c.before.before) (start c.before.before).args.progress.state.tool (start c.before.before).args.progress.entries
 is_made c = sym c.in-Made.is ∙ c.hit-judged.ensures.0
 
-pub hit-judged-requires : goal.hit-judged-requires
-hit-judged-requires c = search rules
-
-pub enum_known-judged : goal.enum_known-judged
-enum_known-judged c = search rules
-
-pub refused-requires : goal.refused-requires
-refused-requires c = search rules
-
-pub enum_known-judged-in-Made-1 : goal.enum_known-judged-in-Made-1
-enum_known-judged-in-Made-1 c = search rules
-
-pub moved_to-requires : goal.moved_to-requires
-moved_to-requires c = search rules
-
 pub overflow_add-entries : goal.overflow_add-entries
 overflow_add-entries c =
     let j = (goal.at.overflow_add-entries c).In-Made in
     let a = (start (goal.at.overflow_add-entries c).After-hit-judged).args in
     omega (arith, places-fit (start (goal.at.overflow_add-entries c).After-hit-judged), hit-fits a.frame (point_of a.place) a.progress.state.tool a.progress.entries j.in-Made.current (is_made j))
-
-pub passed-requires : goal.passed-requires
-passed-requires c = search rules
-
-pub shape_of-list-in-Refused : goal.shape_of-list-in-Refused
-shape_of-list-in-Refused c = search rules
 
 pub returns-in-Refused : goal.returns-in-Refused
 returns-in-Refused c =
@@ -60,9 +39,6 @@ returns-in-Refused c =
     let a = (start h).args in
     rw c.refused.ensures
     (punch-refused a.frame a.line (point h) a.progress j.in-Refused.number (sym j.in-Refused.is ∙ h.hit-judged.ensures.0))
-
-pub shape_of-list-in-Made : goal.shape_of-list-in-Made
-shape_of-list-in-Made c = search rules
 
 pub returns-in-Made : goal.returns-in-Made
 returns-in-Made c =

@@ -19,15 +19,6 @@ value-back c = search rules
 value-size : (c : Start) → nat_abs c.args.axis.value ≤ 2147483648
 value-size c = let f : SFits w32 c.args.axis.value = search rules in abs_word c.args.axis.value f
 
-pub widen-requires : goal.widen-requires
-widen-requires c = search rules
-
-pub sum-requires : goal.sum-requires
-sum-requires c = search rules
-
-pub sum-requires-else-incremental : goal.sum-requires-else-incremental
-sum-requires-else-incremental c = search rules
-
 pub returns-then-not-axis : goal.returns-then-not-axis
 returns-then-not-axis c =
     let a = c.before.before.before.before in

@@ -67,23 +67,10 @@ judging n c line rest = do
 which : (n : Bool) (line : ℕ) (rest : Out (Made Progress)) → judging n false line rest ≡ refused (cond n 16 15) line
 unfolding judging
 which true line rest = refl
-
 which false line rest = refl
-
-pub target-place-requires : goal.target-place-requires
-target-place-requires c = search rules
 
 pub seen-seen-requires : goal.seen-seen-requires
 seen-seen-requires c = c.target-place.ensures.moderate
-
-pub covers-requires : goal.covers-requires
-covers-requires c = search rules
-
-pub out_of_range-requires : goal.out_of_range-requires
-out_of_range-requires c = search rules
-
-pub refused-requires : goal.refused-requires
-refused-requires c = search rules
 
 pub returns-then-not-covers : goal.returns-then-not-covers
 unfolding move judging
@@ -105,18 +92,6 @@ narrow-end-requires c =
     let w = near_within (frame s) p (entry s).requires n in
     (omega (arith, w.0), omega (arith, w.1))
 
-pub choosing-chosen-requires : goal.choosing-chosen-requires
-choosing-chosen-requires c = search rules
-
-pub dropping-dropped-requires : goal.dropping-dropped-requires
-dropping-dropped-requires c = search rules
-
-pub moved_to-requires : goal.moved_to-requires
-moved_to-requires c = search rules
-
-pub with_state-requires : goal.with_state-requires
-with_state-requires c = search rules
-
 -- the test of the range, seen from what is left
 abbrev inside_of : After-with_state → Else-not-covers
 inside_of c = c.before.before.before.before.before
@@ -128,9 +103,6 @@ moved-is c =
     let chosen = m.dropping-dropped.ensures ∙ ap dropping m.choosing-chosen.ensures in
     let ends = m.narrow-end.ensures ∙ s.target-place.ensures.result_value in
     c.with_state.ensures ∙ ap (with_state (entry s).args.progress) (m.moved_to.ensures ∙ ap₂ moved_to chosen ends)
-
-pub passed-requires : goal.passed-requires
-passed-requires c = search rules
 
 pub returns : goal.returns
 unfolding move

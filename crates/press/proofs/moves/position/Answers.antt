@@ -23,23 +23,8 @@ ready-is c =
     let dropped = c.dropping.ensures ∙ ap dropping c.choosing-chosen.ensures in
     c.with_state-ready.ensures ∙ ap (with_state (before-punch c).args.progress) dropped
 
-pub target-place-requires : goal.target-place-requires
-target-place-requires c = search rules
-
-pub choosing-chosen-requires : goal.choosing-chosen-requires
-choosing-chosen-requires c = search rules
-
-pub dropping-requires : goal.dropping-requires
-dropping-requires c = search rules
-
-pub with_state-ready-requires : goal.with_state-ready-requires
-with_state-ready-requires c = search rules
-
 pub punch-requires : goal.punch-requires
 punch-requires c = let d = c.before in record { steady = (before-punch d).requires; moderate = d.target-place.ensures.moderate }
-
-pub shape_of-list : goal.shape_of-list
-shape_of-list c = search rules
 
 -- a position block is a punch, with this progress
 punches : (j : Judging) (f : Frame) (line : ℕ) (a : Axes) (t : ℕ) (g : Progress)

@@ -27,30 +27,6 @@ located-is c = c.located-located.ensures ∙ ap located c.target-place.ensures.r
 is-located : (c : In-At) → (near (origin c.before) ≡ true) × (c.in-At.origin ≡ origin c.before)
 is-located c = located-at (origin c.before) c.in-At.origin (sym c.in-At.is ∙ located-is c.before)
 
-pub target-place-requires : goal.target-place-requires
-target-place-requires c = search rules
-
-pub located-located-requires : goal.located-located-requires
-located-located-requires c = search rules
-
-pub enum_told-1 : goal.enum_told-1
-enum_told-1 c = search rules
-
-pub refused-requires : goal.refused-requires
-refused-requires c = search rules
-
-pub enum_known-located : goal.enum_known-located
-enum_known-located c = search rules
-
-pub waiting_at-waiting-requires : goal.waiting_at-waiting-requires
-waiting_at-waiting-requires c = search rules
-
-pub with_state-requires : goal.with_state-requires
-with_state-requires c = search rules
-
-pub passed-requires : goal.passed-requires
-passed-requires c = search rules
-
 pub returns-in-TooFar : goal.returns-in-TooFar
 unfolding set_pattern_origin
 returns-in-TooFar c =

@@ -8,12 +8,6 @@ use Rattle.aries.specs.Moves.{point_at, target}
 use Rattle.press.proofs.moves.target.Goals.{After-axis_target, After-axis_target-2, Start}
 use Rattle.press.proofs.moves.target.Goals as goal
 
-pub axis_target-requires : goal.axis_target-requires
-axis_target-requires c = search rules
-
-pub axis_target-requires-2 : goal.axis_target-requires-2
-axis_target-requires-2 c = search rules
-
 module _ (c : Start) where
   origin-x-back : to_z w32 (of_z w32 c.args.frame.origin.x) ≡ c.args.frame.origin.x
   origin-x-back = search rules
@@ -26,6 +20,7 @@ module _ (c : Start) where
 
   current-y-back : to_z w32 (of_z w32 c.args.state.current.y) ≡ c.args.state.current.y
   current-y-back = search rules
+
 -- the point that is named
 abbrev named : Start → Point
 named c = target c.args.frame c.args.state c.args.axes

@@ -18,15 +18,6 @@ y-back c = search rules
 right-back : (c : After-right) → to_z w32 (of_z w32 c.right.result) ≡ c.right.result
 right-back c = search rules
 
-pub right-requires : goal.right-requires
-right-requires c = search rules
-
-pub between-requires : goal.between-requires
-between-requires c = search rules
-
-pub between-requires-then-between : goal.between-requires-then-between
-between-requires-then-between c = search rules
-
 -- x lies in the range
 abbrev inside : Start → Bool
 inside c = le_z least_end c.args.p.x && le_z c.args.p.x (right_end c.args.self)

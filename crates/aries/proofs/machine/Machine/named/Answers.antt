@@ -25,15 +25,6 @@ x-test c = simp (x-back c.before.before.before.before.before) at c.equal-then-eq
 x-test' : (c : After-equal-then-equal-2) → c.equal-then-equal-2.result ≡ eq_z c.args.pair.x (pos 100000)
 x-test' c = simp (x-back c.before.before.before.before.before.before.before) at c.equal-then-equal-2.ensures
 
-pub equal-requires : goal.equal-requires
-equal-requires c = search rules
-
-pub equal-requires-then-equal : goal.equal-requires-then-equal
-equal-requires-then-equal c = search rules
-
-pub equal-requires-then-equal-2 : goal.equal-requires-then-equal-2
-equal-requires-then-equal-2 c = search rules
-
 pub returns-then-equal-2 : goal.returns-then-equal-2
 returns-then-equal-2 c =
     let t = c.before.before in

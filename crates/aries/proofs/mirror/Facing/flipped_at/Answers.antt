@@ -28,17 +28,11 @@ difference-is c = simp (span-back c.before.before.before, to_z-of_z c.ranges.a) 
 sum_is : (c : After-sum) → let a = c.args in c.sum.result ≡ a.self.span +ℤ a.a
 sum_is c = simp (span-back c.before.before.before, to_z-of_z c.ranges.a) at c.sum.ensures
 
-pub difference-requires : goal.difference-requires
-difference-requires c = search rules
-
 pub narrow-requires : goal.narrow-requires
 narrow-requires c =
     let s = c.before.before.before in
     simp (read_back w64 c.difference.result c.difference.type_inv)
     (simp (difference-is c) (le_trans (abs_sub s.args.self.span s.args.a span_limit farthest s.requires.0 (small s)) (lit≤ tt)))
-
-pub sum-requires : goal.sum-requires
-sum-requires c = search rules
 
 pub narrow-requires-else-self : goal.narrow-requires-else-self
 narrow-requires-else-self c =

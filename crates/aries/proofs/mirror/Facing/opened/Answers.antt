@@ -3,9 +3,6 @@ use mir.Facts.{to_z-of_z}
 use borrow.Author.Rules.{rules}
 use Rattle.aries.proofs.mirror.Facing.opened.Goals as goal
 
-pub flipped_at-requires : goal.flipped_at-requires
-flipped_at-requires c = search rules
-
 pub returns-then-flips : goal.returns-then-flips
 returns-then-flips c = simp c.if-flips.true (simp (to_z-of_z c.ranges.a) at c.flipped_at.ensures)
 

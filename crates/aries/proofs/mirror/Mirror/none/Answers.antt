@@ -2,8 +2,5 @@
 use borrow.Author.Rules.{rules}
 use Rattle.aries.proofs.mirror.Mirror.none.Goals as goal
 
-pub straight-straight-requires : goal.straight-straight-requires
-straight-straight-requires c = search rules
-
 pub returns : goal.returns
 returns c = rw c.straight-straight.ensures

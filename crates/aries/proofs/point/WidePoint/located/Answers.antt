@@ -17,12 +17,6 @@ x-back c = search rules
 y-back : (c : Start) → to_z w64 (of_z w64 c.args.self.y) ≡ c.args.self.y
 y-back c = search rules
 
-pub size_at_most-requires : goal.size_at_most-requires
-size_at_most-requires c = search rules
-
-pub size_at_most-requires-then-size_at_most : goal.size_at_most-requires-then-size_at_most
-size_at_most-requires-then-size_at_most c = search rules
-
 -- the tests, of the numbers themselves
 x-near : (c : After-size_at_most) → c.size_at_most.result ≡ is_near c.args.self.x
 x-near c = simp (x-back c.before.before.before) at c.size_at_most.ensures

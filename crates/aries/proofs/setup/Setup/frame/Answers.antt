@@ -2,8 +2,5 @@
 use borrow.Author.Rules.{rules}
 use Rattle.aries.proofs.setup.Setup.frame.Goals as goal
 
-pub none-mirror-requires : goal.none-mirror-requires
-none-mirror-requires c = search rules
-
 pub returns : goal.returns
 returns c = rw c.none-mirror.ensures

@@ -4,9 +4,6 @@ use native.Mathlib.Omega.{arith}
 use borrow.Author.Rules.{rules}
 use Rattle.aries.proofs.state.Progress.begun.Goals as goal
 
-pub measuring-measured-requires : goal.measuring-measured-requires
-measuring-measured-requires c = search rules
-
 pub overflow_add-self : goal.overflow_add-self
 overflow_add-self c =
     let entry = c.before.before.before.before in

@@ -8,8 +8,5 @@ use Rattle.aries.proofs.state.Progress.fresh.Goals as goal
 abbrev progress : State → Progress
 progress s = record { state = s; blocks = 0; entries = 0 }
 
-pub fresh-state-requires : goal.fresh-state-requires
-fresh-state-requires c = search rules
-
 pub returns : goal.returns
 returns c = ap progress c.fresh-state.ensures

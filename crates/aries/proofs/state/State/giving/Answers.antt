@@ -2,8 +2,5 @@
 use borrow.Author.Rules.{rules}
 use Rattle.aries.proofs.state.State.giving.Goals as goal
 
-pub over-spans-requires : goal.over-spans-requires
-over-spans-requires c = search rules
-
 pub returns : goal.returns
 returns c = rw c.over-spans.ensures
