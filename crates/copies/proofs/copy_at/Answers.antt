@@ -1,5 +1,4 @@
 -- By what 15 makes of the place, and by what follows the direct blocks at the front of the part.
-use borrow.Author.Rules.{rules}
 use mathlib.Core.Path.{◌≡◌, sym, ap, ap₂, subst, ◌∙◌}
 use mathlib.Core.List.{List}
 use mathlib.Core.Bool.{true}
@@ -16,11 +15,11 @@ use Rattle.aries.specs.Outcome.{Out}
 use Rattle.aries.specs.Entries.{Made}
 use Rattle.aries.specs.Judging.{Judging, limits, near}
 use Rattle.aries.specs.Layouts.{Part, copy_start, part_of, copy}
-use Rattle.aries.specs.Macros.{bodies_of, Calls, call, most_calls, run_body}
+use Rattle.aries.specs.Macros.{bodies_of, call, most_calls, run_body}
 use Rattle.aries.specs.Moves.{with_state}
 use Rattle.aries.specs.Reader.{reader_of}
 use Rattle.aries.specs.WidePoints.{point_of}
-use Rattle.aries.specs.Runs.{Lent, lent_both, Carried}
+use Rattle.aries.specs.Runs.{Lent, Carried}
 use Rattle.aries.specs.Setup.{frame_at}
 use Rattle.aries.specs.Steady.{GivenNear, Steady}
 use Rattle.aries.proofs.Carried.{carried-refused}

@@ -1,9 +1,7 @@
 -- By what 15 makes of all places. Assumes nothing.
-use borrow.Author.Rules.{rules}
-use mathlib.Core.Path.{◌≡◌, refl, sym, ap, ◌∙◌}
+use mathlib.Core.Path.{refl, sym, ap, ◌∙◌}
 use Rattle.aries.specs.declared.state.Progress.{Progress}
 use Rattle.aries.specs.declared.state.Status.TheVariants.{Passed}
-use Rattle.aries.specs.Layouts.{copy_start}
 use Rattle.aries.specs.Moves.{with_state}
 use Rattle.aries.proofs.Carried.{carried-refused, carried_no_entry}
 use Rattle.copies.specs.Copying.{blank_part, all_copies}

@@ -1,9 +1,7 @@
-use borrow.Author.Rules.{rules}
 use mathlib.Core.Path.{◌≡◌, refl, sym, ap, ◌∙◌}
 use mathlib.Core.List.{List}
 use Prim.Native.Nat.{ℕ, ◌+◌, ◌-◌, ◌<◌, ◌≤◌}
 use native.Mathlib.Omega.{arith}
-use lib.ListN.{length}
 use Rattle.aries.specs.declared.block.Copies.{Copies}
 use Rattle.aries.specs.declared.block.Layout.{Layout}
 use Rattle.aries.specs.declared.macros.Macros.{Macros}
@@ -13,11 +11,10 @@ use Rattle.aries.specs.declared.state.State.{State}
 use Rattle.aries.specs.Outcome.{Out}
 use Rattle.aries.specs.Entries.{Made, and_then}
 use Rattle.aries.specs.Judging.{limits}
-use Rattle.aries.specs.Layouts.{Part, copy_count, copy_place, part_of, copy, copy_all}
+use Rattle.aries.specs.Layouts.{copy_count, copy_place, part_of, copy}
 use Rattle.aries.specs.Macros.{bodies_of}
 use Rattle.aries.specs.Runs.{Lent, entries_made}
 use Rattle.aries.proofs.Runs.{Leads, leads-start, leads_as, leads_on, leads_out, leads_end}
-use Rattle.lanes.specs.Cursors.{cursor_at}
 use Rattle.lanes.proofs.Cursors.{at_zero}
 use Rattle.placing.proofs.CopyPlace.{count_fits, cursor_inside, place_here, may_advance, advanced}
 use Rattle.copies.specs.Copying.{body_of}

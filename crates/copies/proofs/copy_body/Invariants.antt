@@ -1,9 +1,7 @@
 -- The invariant: the cursor is that of copy m, and whoever makes the copies that are left has made them all.
-use borrow.Author.Rules.{rules}
-use mathlib.Core.Path.{◌≡◌, refl, sym, ap, ◌∙◌}
+use mathlib.Core.Path.{◌≡◌}
 use mathlib.Core.List.{List}
-use Prim.Native.Nat.{ℕ, ◌+◌, ◌-◌, ◌<◌, ◌≤◌}
-use native.Mathlib.Omega.{arith}
+use Prim.Native.Nat.{ℕ, ◌-◌, ◌≤◌}
 use lib.ListN.{length}
 use Rattle.aries.specs.declared.block.Copies.{Copies}
 use Rattle.aries.specs.declared.block.Layout.{Layout}
@@ -12,17 +10,14 @@ use Rattle.aries.specs.declared.state.Frame.{Frame}
 use Rattle.aries.specs.declared.state.Progress.{Progress}
 use Rattle.aries.specs.declared.state.State.{State}
 use Rattle.aries.specs.Outcome.{Out}
-use Rattle.aries.specs.Entries.{Made, and_then}
+use Rattle.aries.specs.Entries.{Made}
 use Rattle.aries.specs.Judging.{limits}
-use Rattle.aries.specs.Layouts.{Part, copy_count, copy_place, part_of, copy, copy_all}
+use Rattle.aries.specs.Layouts.{copy_count, copy_place, part_of, copy_all}
 use Rattle.aries.specs.Macros.{bodies_of}
-use Rattle.aries.specs.Runs.{entries_made, lent_both, Ran}
-use Rattle.aries.proofs.Runs.{Leads, leads-start, leads_as, leads_on, leads_out, leads_end}
+use Rattle.aries.specs.Runs.{entries_made, lent_both}
+use Rattle.aries.proofs.Runs.{Leads}
 use Rattle.lanes.specs.Cursors.{cursor_at}
-use Rattle.lanes.proofs.Cursors.{at_zero}
-use Rattle.placing.proofs.CopyPlace.{count_fits, cursor_inside, place_here, may_advance, advanced}
 use Rattle.copies.specs.Copying.{body_of}
-use Rattle.copies.proofs.CopyAll.{copies_step, copies_end}
 use Rattle.copies.proofs.copy_body.Given as goal
 
 -- so many copies, from copy m on

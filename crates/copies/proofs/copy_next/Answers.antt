@@ -1,5 +1,4 @@
 -- Of the progress before it a copy reads only the counts.
-use borrow.Author.Rules.{rules}
 use Rattle.aries.specs.Layouts.{copy}
 use Rattle.copies.proofs.copy_next.Goals as goal
 

@@ -1,6 +1,5 @@
 -- By whether the part has a block.
 use native.Mathlib.Omega.{arith}
-use borrow.Author.Rules.{rules}
 use mathlib.Core.Path.{sym, ◌∙◌}
 use Rattle.aries.specs.Judging.{limits}
 use Rattle.aries.specs.Macros.{bodies_of}

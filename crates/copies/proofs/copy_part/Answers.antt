@@ -1,12 +1,11 @@
 -- One law of `copy_part` for each way out. Assumes nothing.
-use borrow.Author.Rules.{rules}
-use mathlib.Core.Path.{◌≡◌, sym, ap, ap₂, ◌∙◌, subst}
-use Prim.Native.Nat.{ℕ, ◌-◌, ◌≤◌}
+use mathlib.Core.Path.{sym, ap, ap₂, ◌∙◌, subst}
+use Prim.Native.Nat.{ℕ, ◌-◌}
 use native.Mathlib.Omega.{arith}
 use lib.ListN.{length, take, drop}
 use Rattle.aries.specs.Judging.{limits}
 use Rattle.aries.specs.Layouts.{copy_part}
-use Rattle.aries.specs.Macros.{found_in, bodies_of}
+use Rattle.aries.specs.Macros.{bodies_of}
 use Rattle.aries.specs.Setup.{ordinary_frame}
 use Rattle.aries.specs.Steady.{Steady}
 use Rattle.aries.proofs.Carried.{carried-refused}
