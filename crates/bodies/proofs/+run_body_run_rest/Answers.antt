@@ -13,14 +13,13 @@ use Rattle.aries.specs.declared.state.Status.TheVariants.{Passed}
 use Rattle.aries.specs.Outcome.{Out}
 use Rattle.aries.specs.Entries.{Made, and_then}
 use Rattle.aries.specs.Judging.{Judging, limits}
-use Rattle.aries.specs.Macros.{found_in, Body, part, Bodies, bodies_of, Calls, carry_call, run_lines, call, run_body}
-use Rattle.aries.specs.Runs.{Lent, lent_both, entries_made, Ran}
+use Rattle.aries.specs.Macros.{found_in, part, Bodies, bodies_of, Calls, carry_call, run_lines, call, run_body}
+use Rattle.aries.specs.Runs.{Lent, entries_made, Ran}
 use Rattle.aries.specs.Steady.{Steady, GivenNear, CallNear}
 use Rattle.aries.specs.Text.{lines}
 use Rattle.aries.proofs.Runs.{Leads, leads_as, leads_on, leads_out, leads_end, ran-refused, status_as, passed_as}
 use Rattle.aries.proofs.Carried.{carried-refused}
 use Rattle.stretches.specs.declared.Sequel.{Sequel}
-use Rattle.stretches.specs.declared.Sequel.TheVariants as Sequel
 use Rattle.stretches.specs.declared.Stretch.{Stretch}
 use Rattle.stretches.specs.Stretches.{Stretches, stretch, LinesFit}
 use Rattle.stretches.proofs.Sequels.{SequelBehind, stretch-behind}

@@ -2,7 +2,7 @@
 -- the body's first stretch to the block runner, with one call less to open. Both fall in a measure of twice the calls left.
 -- The invariant of the block runner: whoever carries out what follows the stretch that the loop has come to has carried out
 -- what followed the first.
-use Rattle.std.proofs.Common.{◌≡◌, ℕ, ◌+◌, ◌*◌, length}
+use Rattle.std.proofs.Common.{◌≡◌, ◌+◌, ◌*◌, length}
 use Rattle.aries.specs.Judging.{limits}
 use Rattle.aries.specs.Macros.{bodies_of, call}
 use Rattle.aries.specs.Runs.{lent_both, entries_made}

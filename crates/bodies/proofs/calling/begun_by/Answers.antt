@@ -1,6 +1,5 @@
 -- Each case is the definition's.
 use mathlib.Core.Path.{refl, ◌∙◌}
-use borrow.Author.Rules.{rules}
 use Rattle.bodies.proofs.calling.begun_by.Goals as goal
 
 pub returns-in-Plain : goal.returns-in-Plain

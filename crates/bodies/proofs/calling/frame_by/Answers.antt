@@ -1,6 +1,4 @@
 -- Each case is the definition's.
-use mathlib.Core.Path.{◌≡◌}
-use borrow.Author.Rules.{rules}
 use Rattle.bodies.proofs.calling.frame_by.Goals as goal
 
 pub returns-in-Mirrored : goal.returns-in-Mirrored
