@@ -14,7 +14,6 @@ use Rattle.aries.specs.Setup.{ordinary_frame}
 use Rattle.aries.specs.Bodies.{body_size, first_run, with_stored}
 use Rattle.aries.specs.Judging.{limits}
 use Rattle.aries.specs.Text.{lines}
-use Rattle.aries.specs.declared.state.Status.TheVariants.{Passed, Refused}
 use Rattle.aries.proofs.Given.{first_run-near, left_near}
 use Rattle.aries.proofs.Runs.{ran-refused, ran-map}
 use Rattle.decode.proofs.NearCalls.{calls_near}
@@ -42,10 +41,6 @@ module _ (t : List ℕ) (start number : ℕ) (s : Setup) (g : Progress) where
 
     inside : (size : ℕ) → x ≡ Bytes size → start + size < length t
     inside size is = answers.inside size is
-
--- a refusal is no pass
-not-passed : {number line : ℕ} → Refused number line ≡ Passed → ⊥
-not-passed e = let z : ◌≡◌ {A = ℕ} 0 1 = cc in omega arith
 
 pub returns-in_default-clause-opens : goal.returns-in_default-clause-opens
 returns-in_default-clause-opens c =
