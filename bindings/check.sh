@@ -1,11 +1,9 @@
 #!/bin/sh
-# Runs the commands of the bindings' READMEs and compares what they print; ends with 1 at the first that is wrong. It
-# needs what `rt check hitlist` and `rt staticlib tolkjirp` make, a C and a C++ compiler, and cargo.
+# Runs the commands of the bindings' READMEs and compares what they print; ends with 1 at the first that is wrong. First
+# it proves and builds the archive and hitlist, where they have changed. It needs rt, a C and a C++ compiler, and cargo.
 cd "$(dirname "$0")/.." || exit 1
 library=target/staticlib/libtolkjirp.a
-for needed in target/bin/hitlist "$library"; do
-    [ -e "$needed" ] || { echo "$needed is missing: run rt check hitlist && rt staticlib tolkjirp"; exit 1; }
-done
+hitlist=crates/hitlist/out/hitlist
 out=$(mktemp -d) || exit 1
 trap 'rm -rf "$out"' EXIT
 
@@ -23,13 +21,22 @@ ends() {
     [ $status -eq "$expected" ] || { cat "$out/printed" "$out/said"; fail "$* ends with $status, not $expected"; }
 }
 
+# ---- The archive and hitlist
+ends 0 bindings/archive.sh
+ends 0 sh -c 'cd crates/hitlist && rt run <stdin'
+cmp -s crates/hitlist/stdout "$out/printed" || fail "hitlist on its stored text"
+for needed in "$hitlist" "$library"; do
+    [ -e "$needed" ] || fail "$needed is missing"
+done
+echo "The archive and hitlist: built"
+
 # ---- C and C++
 ends 0 cc -std=c99 -O2 -Wall -Wextra -Werror -pedantic -o target/example bindings/c/example.c "$library"
 ends 0 c++ -std=c++11 -O2 -Wall -Wextra -Werror -pedantic -o "$out/empty" bindings/c/empty.cpp "$library"
 ends 0 "$out/empty"
 ends 0 target/example
 for plate in plates/*.nc; do
-    target/bin/hitlist <"$plate" >"$out/listing"
+    "$hitlist" <"$plate" >"$out/listing"
     ends 0 target/example "$plate"
     cmp -s "$out/listing" "$out/printed" || fail "$plate by name"
     target/example - <"$plate" | cmp -s "$out/listing" - || fail "$plate from standard input"

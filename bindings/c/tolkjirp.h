@@ -1,7 +1,7 @@
 /*
  * Tolkjirp: from ARIES punch code to the list of hits and stops for the press.
  *
- * Link with libtolkjirp.a, which `rt staticlib tolkjirp` writes to
+ * Link with libtolkjirp.a, which `bindings/archive.sh` writes to
  * target/staticlib at the repository's root. It is for Linux on x86-64. The
  * header is C99 and C++.
  */

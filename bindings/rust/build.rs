@@ -15,7 +15,7 @@ fn main() {
     println!("cargo:rerun-if-changed={}", library.display());
     if !library.is_file() {
         eprintln!("{} is missing.", library.display());
-        eprintln!("Run `rt staticlib tolkjirp` at the repository's root,");
+        eprintln!("Run `bindings/archive.sh` at the repository's root,");
         eprintln!("or set {FOLDER_VARIABLE} to the folder that has libtolkjirp.a.");
         exit(1);
     }

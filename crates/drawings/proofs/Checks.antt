@@ -1,19 +1,17 @@
 -- A list and a table agree exactly if every hole stands in both equally often.
-use mathlib.Core.Path.{◌≡◌, refl, sym, ap, ◌∙◌}
+use mathlib.Core.Path.{◌≡◌, refl, sym, ◌∙◌}
 use mathlib.Core.Bool.{Bool, true, false}
 use mathlib.Core.List.{List, [], ◌∷◌}
 use mathlib.Core.Logic.{◌⊎◌, inl, inr, ⊎_elim}
 use mathlib.Core.Option.{Option, none, some}
 use Prim.Native.Nat.{ℕ, suc, ◌≤◌}
-use native.Mathlib.Nat.{le_refl}
 use native.Mathlib.Omega.{arith}
 use borrow.Author.Tests.{ltb-false, le-ltb, eqb-true, eq-eqb, ne_eqb}
 use lib.Dec.{eqb}
 use lib.IntN.{ℤ}
 use Rattle.drawings.specs.declared.hole.Hole.{Hole}
-use Rattle.drawings.specs.declared.Checked.{Checked}
 use Rattle.drawings.specs.declared.Checked.TheVariants.{Agree, Missing, TooMany}
-use Rattle.drawings.specs.Holes.{same_hole, is_at, table_holes, list_holes}
+use Rattle.drawings.specs.Holes.{is_at, table_holes, list_holes}
 use Rattle.drawings.specs.Counts.{times, is_over, first_over}
 use Rattle.drawings.specs.Checks.{verdict, checked, EquallyOften, AgreeExactlyWhen}
 use Rattle.drawings.proofs.Holes.{same-equal}

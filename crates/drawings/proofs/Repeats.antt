@@ -1,13 +1,11 @@
 -- Laws of hits made twice: one more is looked at.
-use mathlib.Core.Path.{◌≡◌, refl}
+use mathlib.Core.Path.{◌≡◌}
 use mathlib.Core.Bool.{true, false}
 use mathlib.Core.List.{List, [], ◌∷◌}
 use mathlib.Core.Option.{Option}
-use Prim.Native.Nat.{ℕ, zero, suc, ◌<◌}
-use native.Mathlib.Omega.{arith}
+use Prim.Native.Nat.{ℕ, suc}
 use borrow.Author.Tests.{eq-eqb, ne_eqb}
 use Rattle.drawings.specs.declared.hole.Hole.{Hole}
-use Rattle.drawings.specs.declared.Repeat.{Repeat}
 use Rattle.drawings.specs.declared.Repeat.TheVariants.{Nothing, Entry}
 use Rattle.drawings.specs.Holes.{is_at}
 use Rattle.drawings.specs.Repeats.{index_among, repeat_at, repeat_from}

@@ -1,6 +1,7 @@
 // A list against a drawing: whether its hits are the holes of the drawing's table, and whether a hit is made twice. A list
 // is handed over without what is left of it past its entries, and a table without what is left of it past its rows.
 #![tactic(auto)]
+
 mod count; // how often a hole stands in a table and in a list
 mod hole; // holes, in a table and in a list
 

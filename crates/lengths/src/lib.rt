@@ -1,5 +1,6 @@
 // Lengths and angles put into hundredths, and refusal 6 of them.
 #![tactic(auto)]
+
 ghost use Rattle.std.specs.Prelude.{◌≡◌, true, ◌&&◌, [], ◌∷◌, ◌<◌, ◌≤◌, length};
 ghost use Rattle.aries.specs.declared.reader.Setting.TheVariants.{Millimetres};
 ghost use Rattle.aries.specs.ByLetter.{at};

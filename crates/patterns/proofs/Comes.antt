@@ -7,18 +7,17 @@ use native.Mathlib.Omega.{arith}
 use Rattle.aries.specs.declared.point.Point.{Point}
 use Rattle.aries.specs.declared.block.Pattern.{Pattern}
 use Rattle.aries.specs.declared.block.Pattern.TheVariants.{Line, Arc, Circle, Grid, Shear}
-use Rattle.aries.specs.declared.job.Job.{Job}
 use Rattle.aries.specs.declared.state.Frame.{Frame}
 use Rattle.aries.specs.declared.state.Progress.{Progress}
 use Rattle.aries.specs.declared.state.Status.TheVariants.{Refused}
 use Rattle.patterns.specs.declared.series.Tooling.{Tooling}
 use Rattle.patterns.specs.declared.series.Reached.{Reached}
-use Rattle.aries.specs.Outcome.{Out, done, refused}
-use Rattle.aries.specs.Entries.{Made, and_then, map_after}
+use Rattle.aries.specs.Outcome.{Out}
+use Rattle.aries.specs.Entries.{Made, and_then}
 use Rattle.aries.specs.Judging.{limits}
 use Rattle.aries.specs.Moves.{◌⊕◌, punch}
 use Rattle.aries.specs.Patterns.{hit_offset, hit_count, punches, ending}
-use Rattle.aries.specs.Runs.{Lent, entries_made, Ran}
+use Rattle.aries.specs.Runs.{Lent, entries_made}
 use Rattle.aries.proofs.Runs.{refused-map, ran-map, Leads, leads-start, leads_as, leads_on, leads_out, leads_end}
 use Rattle.patterns.specs.Series.{come, status_at, Comes, series}
 

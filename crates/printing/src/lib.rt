@@ -1,6 +1,7 @@
 // The listing of a text's answer, entries and tally, as bytes: a head with the count, a line for each entry and one for each
 // tool used, or one line for a refusal.
 #![tactic(auto)]
+
 mod buffer; // bytes put into a buffer
 mod line; // the lines of a listing
 mod number; // numbers in decimal digits

@@ -1,7 +1,7 @@
 -- Laws of what the hits of a G66 have in common: that it leads where the definition does, and how large its numbers are.
-use mathlib.Core.Path.{◌≡◌, refl, sym, ap, ap₂, ◌∙◌}
+use mathlib.Core.Path.{◌≡◌, refl, sym, ap, ◌∙◌}
 use mathlib.Core.Bool.{Bool, true, false, cond}
-use Prim.Native.Nat.{ℕ, zero, suc, ◌+◌, ◌*◌, ◌/◌, ◌≤◌, ◌<◌}
+use Prim.Native.Nat.{ℕ, ◌+◌, ◌*◌, ◌≤◌, ◌<◌}
 use native.Mathlib.Nat.{mul-le-mul, mul_comm, le_refl, le_trans, div-le_of_le-mul}
 use native.Mathlib.Numerals.{add-one}
 use native.Mathlib.Omega.{arith}
@@ -14,13 +14,11 @@ use Rattle.signed.proofs.Integers.{abs_word, abs_minus, abs-*ℤ, mul_add, mul_n
 use Rattle.sine.specs.declared.Direction.{Direction}
 use Rattle.sine.specs.Sine.{direction_of}
 use Rattle.sine.proofs.Bounds.{sine-small, cosine-small}
-use Rattle.aries.specs.declared.point.Point.{Point}
 use Rattle.aries.specs.declared.block.Shear.{Shear}
-use Rattle.aries.specs.Moves.{point_at}
-use Rattle.aries.specs.Shear.{width, is_fit, travel, steps, divisor, denominator, along_part, across_part, shear_offset}
+use Rattle.aries.specs.Shear.{is_fit, travel, steps, divisor, denominator, along_part, across_part, shear_offset}
 use Rattle.aries.proofs.Shear.{first_is}
 use Rattle.shears.specs.declared.fractions.Fraction.{Fraction}
-use Rattle.shears.specs.Fractions.{split, value_of, Reduced}
+use Rattle.shears.specs.Fractions.{split, Reduced}
 use Rattle.shears.specs.Cuts.{cut_of, along_cut, cut_offset, Bounded}
 use Rattle.shears.proofs.Sizes.{travel_bound, steps_bound}
 

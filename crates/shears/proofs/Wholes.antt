@@ -9,7 +9,6 @@ use lib.Dec.{ltb, lit≤, leb-suc-zero}
 use lib.IntN.{ℤ, pos, negsuc, neg_ℤ, nat_abs, ◌+ℤ◌, ◌-ℤ◌, ◌*ℤ◌, +ℤ_assoc, +ℤ_idl, +ℤ_one, -ℤ_one, neg_ℤ-+ℤ, neg_ℤ-neg_ℤ}
 use lib.Signed.{lt_z, quot_z, rem_z}
 use borrow.Author.Tests.{lt-ltb, le-ltb}
-use Rattle.signed.specs.Signed.{with_sign}
 use Rattle.signed.proofs.Integers.{abs_neg, abs_add, abs_mul, add-mul, times_mul, mul_add, mul_neg, add_pairs, quotient_rest, quotient_size}
 use Rattle.sine.specs.Series.{nearest, one}
 use Rattle.sine.specs.Sine.{rounded}

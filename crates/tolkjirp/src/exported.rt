@@ -1,4 +1,4 @@
-// The function for programs in C or Rust: the answer is given as three numbers.
+// The function for programs in C or Rust: the answer is given as three numbers. The crate tolkjirp_c exports it.
 ghost use Rattle.std.specs.Prelude.{◌≡◌, length};
 ghost use Rattle.aries.specs.Program.{expand};
 ghost use Rattle.tolkjirp.specs.Exported.{three_numbers, Exported};
@@ -20,8 +20,7 @@ fn three_numbers(answer: Answer) -> [u64; 3]
 // tool and mode, and a lent tally, three numbers for each of 99 tools: its hits, and the first and the last index where it
 // stands. What the entries leave of the list is zero, and after a refusal all of list and tally. The answer takes the
 // refusal's number or 0, the count of entries, the refusal's line.
-#[unsafe(no_mangle)]
-pub extern "C" fn tolkjirp_expand(
+pub fn tolkjirp_expand(
     setting: i32,
     text: &[u8],
     list: &mut [i32],

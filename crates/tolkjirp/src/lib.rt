@@ -1,6 +1,6 @@
 // The expander of ARIES punch code: from a program text to its list of entries, hits and stops, and their tally by tool.
 #![tactic(auto)]
-pub mod exported; // the function for C and Rust
+pub mod exported; // the function that tolkjirp_c exports
 
 ghost use Rattle.std.specs.Prelude.{◌≡◌, ◌++◌, ◌+◌, ◌-◌, ◌*◌, ◌≤◌, pos, length, take, replicate};
 ghost use Rattle.aries.specs.Text.{lines, longest};

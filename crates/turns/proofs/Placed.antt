@@ -9,9 +9,7 @@ use Rattle.aries.specs.contracts.block.Block as block
 use Rattle.aries.specs.contracts.block.Outside as outside
 use Rattle.aries.specs.contracts.setup.Stage as stages
 use Rattle.aries.specs.declared.block.Block.{Block}
-use Rattle.aries.specs.declared.block.Block.TheVariants as Block
 use Rattle.aries.specs.declared.block.Outside.{Outside}
-use Rattle.aries.specs.declared.block.Outside.TheVariants as Outside
 use Rattle.aries.specs.declared.machine.Machine.{Machine}
 use Rattle.aries.specs.declared.machine.Named.TheVariants.{As, Neither}
 use Rattle.aries.specs.declared.macros.Macros.{Macros}
@@ -65,6 +63,28 @@ not_machine q (Outside.Layout l) h = refl
 not_machine q (Outside.Open k) h = refl
 not_machine q (Outside.Close k) h = refl
 not_machine q (Outside.Copy c) h = refl
+
+-- The same by what is not so.
+
+pub not_fresh-at : (t : Stage) (b : Block) → Alone t → (t ≡ Fresh → ⊥) → in_place t b ≡ false
+not_fresh-at Fresh b a h = absurd (h refl)
+not_fresh-at Running b a h = absurd a
+not_fresh-at Storing b a h = absurd a
+not_fresh-at Ended b a h = refl
+
+pub not_outside-at : (b : Block) → ((o : Outside) → b ≡ Block.Outside o → ⊥) → starts_program b ≡ false
+not_outside-at (Block.Direct d) h = refl
+not_outside-at (Block.Call k) h = refl
+not_outside-at (Block.Outside o) h = absurd (h o refl)
+
+pub not_machine-at : (o : Outside) → ((p : Point) → o ≡ Outside.Machine p → ⊥) → is_machine o ≡ false
+not_machine-at (Outside.Machine p) h = absurd (h p refl)
+not_machine-at Outside.End h = refl
+not_machine-at (Outside.Offset a) h = refl
+not_machine-at (Outside.Layout l) h = refl
+not_machine-at (Outside.Open k) h = refl
+not_machine-at (Outside.Close k) h = refl
+not_machine-at (Outside.Copy c) h = refl
 
 module _ (end line : ℕ) (b : Block) (stage : Stage) (s : Setup) (g : Progress) where
   pub settles_out :

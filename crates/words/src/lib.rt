@@ -1,5 +1,6 @@
 // The words of a block: digits, a word, and all words of a line by their letters.
 #![tactic(auto)]
+
 ghost use Rattle.std.specs.Prelude.{◌≡◌, cond, ◌&&◌, ◌+◌, ◌*◌, ◌^◌, ◌≤◌, ◌<◌, eqb, pos, drop, get_or, replicate};
 ghost use Rattle.aries.specs.Test.{within};
 ghost use Rattle.aries.specs.Letters.{letter_a};

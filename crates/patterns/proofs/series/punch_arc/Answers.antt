@@ -1,0 +1,70 @@
+use mathlib.Core.Path.{◌≡◌, refl, ◌∙◌}
+use native.Mathlib.Omega.{arith}
+use mir.Syntax.{w32, w64}
+use mir.Val.{to_z, of_z}
+use mir.Facts.{to_z-of_z}
+use Rattle.signed.proofs.Integers.{read_back}
+use Rattle.aries.specs.declared.block.Pattern.TheVariants.{Arc}
+use Rattle.aries.specs.Moves.{◌⊕◌}
+use Rattle.aries.specs.Patterns.{hit_offset, hit_count}
+use Rattle.aries.specs.WidePoints.{point_of}
+use Rattle.aries.specs.Runs.{lent}
+use Rattle.patterns.proofs.Comes.{Series, series_of, under_start, under_next, under_refused, under_end}
+use Rattle.patterns.proofs.series.punch_arc.Goals.{After-arc_place-place, At-loop-k, In-loop-k, Start}
+use Rattle.patterns.proofs.series.punch_arc.Goals as goal
+
+-- the function's entry, seen from the loop's head
+abbrev entry : At-loop-k → Start
+entry c = c.before.before.before.before
+
+-- the arc, by the words that hold its numbers
+abbrev arc : Start → Series
+arc c =
+    let a = c.args in
+    series_of a.frame a.tooling (Arc (to_z w32 (of_z w32 a.radius)) (to_z w32 (of_z w32 a.angle)) (to_z w32 (of_z w32 a.step)) a.count) a.start a.entries (lent a.list.now) a.count
+
+-- a turn of the loop, seen from its place
+abbrev turn : After-arc_place-place → In-loop-k
+turn c = c.before.before.before.before.before
+
+-- the place of a hit
+place_is : (c : After-arc_place-place)
+    → point_of c.arc_place-place.result ≡ (arc (entry (turn c).before)).start ⊕ hit_offset (arc (entry (turn c).before)).pattern (turn c).loop-k.k
+unfolding hit_offset
+place_is c =
+    let t = c in
+    rw (read_back w64 t.affine-turned.result t.affine-turned.type_inv, t.affine-turned.ensures.value) at c.arc_place-place.ensures.result_value
+
+pub loop-k-init : goal.loop-k-init
+loop-k-init c =
+    (refl, under_start (arc (goal.at.loop-k-init c).Start))
+
+pub returns-then-made-gt0 : goal.returns-then-made-gt0
+unfolding hit_count
+returns-then-made-gt0 c =
+    let h = c in
+    let p = (goal.at.returns-then-made-gt0 c).After-arc_place-place in
+    let e = entry (turn p).before in
+    simp (to_z-of_z e.ranges.radius, to_z-of_z e.ranges.angle, to_z-of_z e.ranges.step) at
+    (under_refused (arc e) (turn p).loop-k.invariant.1 (turn p).loop-k-test.true (place_is p) h.punch_next-made.result h.punch_next-made.ensures c.if-made-gt0.true refl)
+
+pub overflow_add-k : goal.overflow_add-k
+overflow_add-k c =
+    let t = turn (goal.at.overflow_add-k c).After-arc_place-place in
+    omega (arith, t.loop-k-test.true, (entry t.before).ranges.count)
+
+pub loop-k-preserved : goal.loop-k-preserved
+loop-k-preserved c =
+    let h = c in
+    let p = (goal.at.loop-k-preserved c).After-arc_place-place in (
+      h.punch_next-made.auto.list ∙ (turn p).loop-k.invariant.0,
+      under_next (arc (entry (turn p).before)) (turn p).loop-k.invariant.1 (turn p).loop-k-test.true (place_is p) h.punch_next-made.result h.punch_next-made.ensures (omega arith),
+    )
+
+pub returns : goal.returns
+unfolding hit_count
+returns c =
+    let l = (goal.at.returns c).At-loop-k in
+    let e = entry l in
+    simp (to_z-of_z e.ranges.radius, to_z-of_z e.ranges.angle, to_z-of_z e.ranges.step) at
+    (under_end (arc e) l.loop-k.made l.loop-k.invariant.1 c.loop-k-test.false refl l.loop-k.invariant.1.passed (λ g. refl))
