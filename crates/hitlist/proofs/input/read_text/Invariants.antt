@@ -1,3 +1,4 @@
+-- What has been read fits.
 use Rattle.std.proofs.Common.{length, ◌-◌, ◌≤◌}
 use Rattle.hitlist.proofs.input.read_text.Given as goal
 

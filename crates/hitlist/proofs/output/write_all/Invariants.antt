@@ -1,3 +1,4 @@
+-- What has been written is no more than all.
 use Rattle.std.proofs.Common.{length, ◌-◌, ◌≤◌}
 use Rattle.hitlist.proofs.output.write_all.Given as goal
 
