@@ -52,7 +52,7 @@ def names_of(page, files):
                 pairs.add((here, token))
             elif page == PAGE and re.fullmatch(r'[A-Z][a-z][A-Za-z]+', token) and token not in files:
                 missing.append('%s: no file %s' % (page, token))
-            elif re.fullmatch(r'[a-z]+(::\w+)+', token) and not in_code(token):
+            elif re.fullmatch(r'[a-z]\w*(::\w+)+', token) and not in_code(token):
                 missing.append('%s: %s is not in the code' % (page, token))
             elif re.match(r'(crates|docs|plates|bindings)/', token) and not (ROOT / token).exists():
                 missing.append('%s: no file %s' % (page, token))

@@ -196,8 +196,8 @@ static inline const char *tolkjirp_refusal_text(uint64_t refusal)
  *
  * The function keeps no state: calls with lists, tallies and answers of their
  * own may run at the same time. It allocates nothing. It uses up to 84 kB of
- * the stack, whatever the text; that is measured and not proved, so a thread of
- * its own should have 128 kB or more.
+ * the stack, whatever the text; that was measured with an older toolchain and is
+ * not proved, so a thread of its own should have 128 kB or more.
  */
 void tolkjirp_expand(int32_t setting,
                      const uint8_t *text, size_t text_length,

@@ -21,7 +21,6 @@ use Rattle.aries.specs.declared.entry.Entry.TheVariants as Entry
 use Rattle.aries.specs.declared.block.Call.{Call}
 use Rattle.aries.specs.declared.block.Call.TheVariants.{Plain, Mirrored}
 use Rattle.aries.specs.declared.block.Block.{Block}
-use Rattle.aries.specs.declared.block.Block.TheVariants as Block
 use Rattle.aries.specs.declared.block.Instruction.{Instruction}
 use Rattle.aries.specs.declared.state.Waiting.{Waiting}
 use Rattle.aries.specs.declared.state.Waiting.TheVariants.{Unset, At}

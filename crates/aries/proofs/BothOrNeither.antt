@@ -2,14 +2,12 @@
 -- by bounds and what all copies count fits (`Copies`), and both visit every cell (`CopyPlaces`).
 use mathlib.Core.Path.{◌≡◌, sym, ap₂, ◌∙◌, subst}
 use mathlib.Core.Bool.{Bool, true, false}
-use mathlib.Core.Option.{Option, some}
 use Prim.Native.Nat.{ℕ, ◌<◌}
 use native.Mathlib.Omega.{arith}
 use Rattle.aries.specs.declared.block.Layout.{Layout}
 use Rattle.aries.specs.declared.point.Point.{Point}
-use Rattle.aries.specs.Macros.{Body}
 use Rattle.aries.specs.Layouts.{copy_count, column_of, row_of, place_at, copy_place}
-use Rattle.aries.specs.CopyRuns.{Circumstances, bytes_of, run, Accepted, AllAlike, BothOrNeither}
+use Rattle.aries.specs.CopyRuns.{Circumstances, run, Accepted, AllAlike, BothOrNeither}
 use Rattle.aries.proofs.Counts.{counts_of}
 use Rattle.aries.proofs.Parts.{same-part, parts-turned, part-stored, fit_alike, alike_turned}
 use Rattle.aries.proofs.Copies.{Passes, copies_own, copies_accepted, accepted_copies}

@@ -11,7 +11,6 @@ use Rattle.aries.specs.declared.state.Progress.{Progress}
 use Rattle.aries.specs.Outcome.{Out, done}
 use Rattle.aries.specs.Entries.{Made}
 use Rattle.aries.specs.Judging.{Judging, near, limits}
-use Rattle.aries.specs.Macros.{run_body}
 use Rattle.aries.specs.Layouts.{copy, copy_all}
 use Rattle.aries.specs.Setup.{ordinary_frame}
 use Rattle.aries.specs.CopyRuns.{Circumstances, called, Accepted, entries_of, moved_by, joined, SamePart}

@@ -20,13 +20,11 @@ use Rattle.aries.specs.declared.block.Direct.TheVariants.{Lone, Punch, Move, Pat
 use Rattle.aries.specs.declared.block.Call.{Call}
 use Rattle.aries.specs.declared.block.Call.TheVariants.{Plain, Mirrored}
 use Rattle.aries.specs.declared.block.Block.{Block}
-use Rattle.aries.specs.declared.block.Block.TheVariants as Block
 use Rattle.aries.specs.declared.block.Instruction.{Instruction}
 use Rattle.aries.specs.declared.block.Copies.{Copies}
 use Rattle.aries.specs.declared.macros.Macros.{Macros}
 use Rattle.aries.specs.declared.setup.Setup.{Setup}
 use Rattle.aries.specs.declared.setup.Sheet.{Sheet}
-use Rattle.aries.specs.declared.setup.Sheet.TheVariants as Sheet
 use Rattle.aries.specs.declared.state.Stored.{Stored}
 use Rattle.aries.specs.declared.state.Stored.TheVariants.{Empty, Kept}
 use Rattle.aries.specs.declared.state.State.{State}

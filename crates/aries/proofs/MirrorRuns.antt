@@ -9,7 +9,6 @@ use lib.IntN.{ℤ, ◌+ℤ◌, ◌-ℤ◌}
 use Rattle.signed.proofs.Integers.{sum_minus, plus_difference}
 use Rattle.aries.specs.declared.point.Point.{Point}
 use Rattle.aries.specs.declared.entry.Entry.{Entry}
-use Rattle.aries.specs.declared.entry.Entry.TheVariants as Entry
 use Rattle.aries.specs.declared.mirror.Facing.{Facing}
 use Rattle.aries.specs.declared.mirror.Mirror.{Mirror}
 use Rattle.aries.specs.declared.state.Frame.{Frame}
@@ -21,7 +20,7 @@ use Rattle.aries.specs.Outcome.{Out, done, refused}
 use Rattle.aries.specs.Entries.{placed_by, Made, map_after}
 use Rattle.aries.specs.Judging.{Judging, limits}
 use Rattle.aries.specs.Mirrors.{no_mirror, opened, reflected, mirrored, seen_from, seen}
-use Rattle.aries.specs.Moves.{point_at, zero_point, ◌⊕◌, standing_at, giving}
+use Rattle.aries.specs.Moves.{point_at, zero_point, standing_at, giving}
 use Rattle.aries.specs.Macros.{Calls, at_origin, call_mirrored, call}
 use Rattle.aries.specs.MirrorRuns.{mirror_alone, MirrorsCompose, unseen_from, unseen, MirrorsUndone, MirrorRun, run_by, turned_by, image_by, MirrorSentence}
 use Rattle.aries.proofs.Outcomes.{done_injective, refused≢done}

@@ -7,7 +7,6 @@ use lib.IntN.{ℤ, neg_ℤ, ◌+ℤ◌, +ℤ_assoc, +ℤ_comm, +ℤ_idl, +ℤ_id
 use Rattle.aries.specs.declared.point.Point.{Point}
 use Rattle.aries.specs.declared.entry.Hit.{Hit}
 use Rattle.aries.specs.declared.entry.Entry.{Entry}
-use Rattle.aries.specs.declared.entry.Entry.TheVariants as Entry
 use Rattle.aries.specs.Entries.{hits_in}
 use Rattle.aries.specs.Moves.{point_at, zero_point, ◌⊕◌}
 use Rattle.aries.specs.CopyRuns.{moved_hit, moved_by}

@@ -1,6 +1,6 @@
 -- Demand 3: moving the reference point moves every hit of a run along. Both runs are the own entries of the first moved to each
 -- place (`CopyRuns`), and the places go with the origin (`CopyPlaces`).
-use mathlib.Core.Path.{◌≡◌, sym, ap, ap₂, ◌∙◌}
+use mathlib.Core.Path.{sym, ap, ap₂, ◌∙◌}
 use mathlib.Core.List.{List, map}
 use Prim.Native.Nat.{ℕ}
 use Rattle.aries.specs.declared.point.Point.{Point}

@@ -14,9 +14,7 @@ use lib.ListN.{length, drop, length-set}
 use lib.Seq.{drop-drop, get_or-set_same, get_or-set_other}
 use borrow.Author.Tests.{ltb-true, ltb-false, eqb-true, eqb-false, leb-true}
 use Rattle.aries.specs.declared.block.Outside.{Outside}
-use Rattle.aries.specs.declared.block.Outside.TheVariants as Outside
 use Rattle.aries.specs.declared.block.Block.{Block}
-use Rattle.aries.specs.declared.block.Block.TheVariants as Block
 use Rattle.aries.specs.declared.job.Job.{Job}
 use Rattle.aries.specs.declared.machine.Named.{Named}
 use Rattle.aries.specs.declared.machine.Named.TheVariants.{As, Neither}

@@ -2,7 +2,7 @@
 use mathlib.Core.Path.{◌≡◌, refl, sym, ap, subst, ◌∙◌}
 use mathlib.Core.Bool.{Bool, true, false, cond, ◌&&◌}
 use mathlib.Core.List.{List, [], ◌∷◌, ◌++◌}
-use Prim.Native.Nat.{ℕ, zero, suc, ◌+◌, ◌-◌, ◌*◌, ◌/◌, ◌≤◌, ◌<◌}
+use Prim.Native.Nat.{ℕ, suc, ◌+◌, ◌-◌, ◌*◌, ◌/◌, ◌≤◌, ◌<◌}
 use native.Mathlib.Omega.{arith}
 use borrow.Author.Tests.{lt-ltb}
 use lib.Dec.{ltb}
@@ -14,7 +14,6 @@ use Rattle.aries.specs.declared.state.Status.TheVariants.{Passed, Refused}
 use Rattle.aries.specs.Outcome.{Out, done, refused}
 use Rattle.aries.specs.declared.entry.Entry.{Entry}
 use Rattle.aries.specs.Entries.{Made, no_entry, adding, and_then, map_after}
-use Rattle.aries.specs.declared.entry.Entry.TheVariants as Entry
 use Rattle.aries.specs.Test.{within}
 use Rattle.aries.specs.Numbers.{last_tool}
 use Rattle.aries.specs.Runs.{status_of, Lent, lent_both, lent, write, list_put, put, over, Ran}

@@ -12,7 +12,6 @@ use Rattle.signed.proofs.Tests.{eq_z_true}
 use Rattle.aries.specs.declared.reader.Given.{Given}
 use Rattle.aries.specs.declared.block.Kind.{Kind}
 use Rattle.aries.specs.declared.job.Job.{Job}
-use Rattle.aries.specs.declared.reader.Setting.{Setting}
 use Rattle.aries.specs.declared.reader.Setting.TheVariants.{Hundredths, Millimetres}
 use Rattle.aries.specs.declared.state.Frame.{Frame}
 use Rattle.aries.specs.declared.state.Progress.{Progress}

@@ -1,7 +1,7 @@
 -- Laws of G66: what 18 leaves of its numbers, and that its steps are the fewest.
 use mathlib.Core.Path.{◌≡◌, refl, sym, ap, ap₂, ◌∙◌}
 use mathlib.Core.Bool.{Bool, true, false, true≢false, cond}
-use Prim.Native.Nat.{ℕ, zero, suc, ◌+◌, ◌-◌, ◌*◌, ◌/◌, ◌≤◌, ◌<◌}
+use Prim.Native.Nat.{ℕ, suc, ◌+◌, ◌-◌, ◌*◌, ◌/◌, ◌≤◌, ◌<◌}
 use native.Mathlib.Nat.{div-lt_iff_lt-mul, lt-suc_self, mul-zero, mul-suc, mul_comm, mul-le-mul, le_refl, le_of_suc-le-suc, div-mul-le_self}
 use native.Mathlib.Omega.{arith}
 use lib.IntN.{ℤ, pos, negsuc, neg_ℤ, nat_abs, ◌+ℤ◌, ◌-ℤ◌, ◌*ℤ◌, +ℤ_assoc, +ℤ_comm, +ℤ_idl, +ℤ_idr, +ℤ-neg_ℤ_cancel, -ℤ-+ℤ_cancel, +ℤ_invr, zero-*ℤ, suc_ℤ-*ℤ}
@@ -14,7 +14,7 @@ use Rattle.aries.specs.declared.block.Shear.{Shear}
 use Rattle.aries.specs.declared.block.Pattern.TheVariants as pattern
 use Rattle.aries.specs.Shear.{width, cut_length, on_one_side, is_wide, is_long, holds_tool, is_fit, travel, longest_step, steps, divisor, denominator, along_part}
 use Rattle.aries.specs.Patterns.{hit_count}
-use Rattle.aries.specs.FewestSteps.{Suffice, Fewest, FewestSteps}
+use Rattle.aries.specs.FewestSteps.{Suffice, FewestSteps}
 
 -- ---- What 18 has found
 

@@ -16,7 +16,6 @@ use Rattle.aries.specs.declared.block.Direct.TheVariants.{Lone, Punch, Move, Pat
 use Rattle.aries.specs.declared.block.Call.{Call}
 use Rattle.aries.specs.declared.block.Call.TheVariants.{Plain, Mirrored}
 use Rattle.aries.specs.declared.block.Block.{Block}
-use Rattle.aries.specs.declared.block.Block.TheVariants as Block
 use Rattle.aries.specs.declared.block.Axes.{Axes}
 use Rattle.aries.specs.declared.block.Copies.{Copies}
 use Rattle.aries.specs.declared.block.Instruction.{Instruction}
@@ -43,7 +42,6 @@ use Rattle.aries.specs.Forms.{in_places, kind_of, is_listed}
 use Rattle.aries.specs.Numbers.{last_tool, in_hundredths, lengths_fit, is_ranged}
 use Rattle.aries.specs.Blocks.{block_of, instruction_of, decode_words, decoded, decode}
 use Rattle.aries.specs.declared.entry.Entry.{Entry}
-use Rattle.aries.specs.declared.entry.Entry.TheVariants as Entry
 use Rattle.aries.specs.Entries.{hits_in, Made, no_entry, adding, and_then, map_after}
 use Rattle.aries.specs.Judging.{Judging, room, judged, near}
 use Rattle.aries.specs.Machine.{in_range}

@@ -1,17 +1,14 @@
 -- Laws of the stored bodies.
-use mathlib.Core.Path.{◌≡◌, refl, sym, ap, ◌∙◌}
-use mathlib.Core.Bool.{Bool, true, false}
-use mathlib.Core.List.{List, [], ◌∷◌}
+use mathlib.Core.Path.{◌≡◌, refl, ◌∙◌}
+use mathlib.Core.List.{List}
 use mathlib.Core.Logic.{◌≢◌}
 use Prim.Native.Nat.{ℕ, zero, suc, ◌+◌, ◌-◌, ◌<◌, ◌≤◌}
 use native.Mathlib.Omega.{arith}
 use native.Mathlib.Numerals.{add-one}
 use borrow.Author.Tests.{lt-ltb, le-ltb}
-use lib.Dec.{ltb}
-use lib.ListN.{length, get_or, drop, set, replicate, get_or-eq_default, drop_of_length-le}
+use lib.ListN.{length, get_or, drop, replicate, get_or-eq_default, drop_of_length-le}
 use lib.Seq.{set_out, drop-cons, get_or-set_other}
 use Rattle.aries.specs.declared.macros.Macros.{Macros}
-use Rattle.aries.specs.declared.macros.Found.{Found}
 use Rattle.aries.specs.declared.macros.Found.TheVariants.{Body, Nothing}
 use Rattle.aries.specs.Macros.{no_macros, found_in, storing, sizes}
 

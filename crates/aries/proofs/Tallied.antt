@@ -10,8 +10,6 @@ use lib.IntN.{ℤ}
 use lib.ListN.{length, length-append}
 use Rattle.aries.specs.declared.job.Job.{Job}
 use Rattle.aries.specs.declared.entry.Entry.{Entry}
-use Rattle.aries.specs.declared.entry.Entry.TheVariants as Entry
-use Rattle.aries.specs.declared.entry.Hit.{Hit}
 use Rattle.aries.specs.declared.state.Status.{Status}
 use Rattle.aries.specs.Outcome.{Out, done}
 use Rattle.aries.specs.Entries.{Made, hits_in}

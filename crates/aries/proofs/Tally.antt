@@ -10,7 +10,6 @@ use lib.Dec.{eqb, leb, ltb}
 use lib.ListN.{length, get_or, set, length-append, length-set}
 use lib.Seq.{get_or-set_same, get_or-set_other, set_out, set-set, set_comm}
 use Rattle.aries.specs.declared.entry.Entry.{Entry}
-use Rattle.aries.specs.declared.entry.Entry.TheVariants as Entry
 use Rattle.aries.specs.declared.entry.Hit.{Hit}
 use Rattle.aries.specs.Test.{within}
 use Rattle.aries.specs.Numbers.{last_tool}

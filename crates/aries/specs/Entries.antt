@@ -5,7 +5,6 @@ use Rattle.aries.specs.declared.point.Point.{Point}
 use Rattle.aries.specs.declared.entry.Hit.{Hit}
 use Rattle.aries.specs.declared.entry.Numbers.{Numbers}
 use Rattle.aries.specs.declared.entry.Entry.{Entry}
-use Rattle.aries.specs.declared.entry.Entry.TheVariants as Entry
 use Rattle.aries.specs.Outcome.{Out, done, refused}
 
 -- ---- Entries: an entry (src/entry.rt) is a hit (where, with which tool, and whether in mode N), or a stop (whether it is

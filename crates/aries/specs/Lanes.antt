@@ -1,6 +1,6 @@
 -- Back and forth: places counted through lanes of equal length, every other lane backwards. Grids go so (document 01,
 -- "Patterns") and layouts (the paragraph on demand 3).
-use Rattle.std.specs.Prelude.{Bool, true, false, cond, ℕ, suc, ◌-◌, ◌/◌, ◌%◌, eqb}
+use Rattle.std.specs.Prelude.{cond, ℕ, suc, ◌-◌, ◌/◌, ◌%◌, eqb}
 
 -- the lane of place m, where the last place of a lane is given, counted from 0
 abbrev pub lane : ℕ → ℕ → ℕ

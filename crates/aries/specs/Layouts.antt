@@ -1,6 +1,6 @@
 -- Layouts: the places of G98 and the order in which G75 and G76 copy a part to them. (Document 01, "Macros and layouts"
 -- and the paragraph on demand 3; refusals 10, 13 and 15.)
-use Rattle.std.specs.Prelude.{Bool, true, false, cond, ◌||◌, List, [], ◌∷◌, ℕ, zero, suc, ◌+◌, ◌-◌, ◌*◌, leb, eqb, ℤ, pos}
+use Rattle.std.specs.Prelude.{Bool, true, false, cond, ◌||◌, ℕ, zero, suc, ◌-◌, ◌*◌, eqb, pos}
 use Rattle.aries.specs.declared.point.Point.{Point}
 use Rattle.aries.specs.declared.block.Layout.{Layout}
 use Rattle.aries.specs.declared.block.Copies.{Copies}
@@ -10,7 +10,7 @@ use Rattle.aries.specs.declared.setup.Setup.{Setup}
 use Rattle.aries.specs.declared.state.State.{State}
 use Rattle.aries.specs.declared.state.Frame.{Frame}
 use Rattle.aries.specs.declared.state.Progress.{Progress}
-use Rattle.aries.specs.Outcome.{Out, done, refused, ◌>>=◌, need, given}
+use Rattle.aries.specs.Outcome.{Out, refused, ◌>>=◌, need, given}
 use Rattle.aries.specs.Entries.{Made, no_entry, and_then}
 use Rattle.aries.specs.Judging.{Judging, judged, near}
 use Rattle.aries.specs.Lanes.{lane, along}

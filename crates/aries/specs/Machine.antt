@@ -1,5 +1,5 @@
 -- The two machines: the G92 pair that names each, and the punching range. (Document 01, "Moving and punching"; refusals 8 and 16.)
-use Rattle.std.specs.Prelude.{Bool, true, false, cond, ◌&&◌, ℤ, pos, neg_ℤ}
+use Rattle.std.specs.Prelude.{Bool, cond, ◌&&◌, ℤ, pos, neg_ℤ}
 use Rattle.std.specs.Int.Signed.{le_z}
 use Rattle.signed.specs.Signed.{eq_z}
 use Rattle.aries.specs.declared.point.Point.{Point}

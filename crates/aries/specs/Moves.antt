@@ -1,5 +1,5 @@
 -- The punching state, positions, hits and stops. (Document 01, "Moving and punching"; document 02, §3 and §5; refusals 14 to 17.)
-use Rattle.std.specs.Prelude.{Bool, true, false, cond, ◌||◌, List, [], ◌∷◌, ℕ, ◌+◌, ◌-◌, ltb, ℤ, pos, ◌+ℤ◌, set, replicate}
+use Rattle.std.specs.Prelude.{Bool, true, false, cond, ◌||◌, [], ◌∷◌, ℕ, ◌+◌, ◌-◌, ltb, ℤ, pos, ◌+ℤ◌, set, replicate}
 use Rattle.aries.specs.declared.point.Point.{Point}
 use Rattle.aries.specs.declared.block.Axis.{Axis}
 use Rattle.aries.specs.declared.block.Axes.{Axes}
@@ -9,17 +9,14 @@ use Rattle.aries.specs.declared.block.Measure.TheVariants.{Unchanged, Absolute, 
 use Rattle.aries.specs.declared.state.Waiting.{Waiting}
 use Rattle.aries.specs.declared.state.Waiting.TheVariants.{Unset, At}
 use Rattle.aries.specs.declared.state.Stored.{Stored}
-use Rattle.aries.specs.declared.state.Stored.TheVariants as Stored
-use Rattle.aries.specs.declared.state.Memory.{Memory}
 use Rattle.aries.specs.declared.state.State.{State}
 use Rattle.aries.specs.declared.state.Frame.{Frame}
 use Rattle.aries.specs.declared.state.Progress.{Progress}
-use Rattle.aries.specs.Outcome.{Out, done, refused, ◌>>=◌, need}
+use Rattle.aries.specs.Outcome.{Out, done, ◌>>=◌, need}
 use Rattle.aries.specs.Numbers.{memory_count}
 use Rattle.aries.specs.Machine.{covers, in_range}
 use Rattle.aries.specs.Mirrors.{seen}
 use Rattle.aries.specs.declared.entry.Entry.{Entry}
-use Rattle.aries.specs.declared.entry.Entry.TheVariants as Entry
 use Rattle.aries.specs.Entries.{Made, no_entry}
 use Rattle.aries.specs.Judging.{Judging, room, judged, near}
 

@@ -1,5 +1,5 @@
 -- Patterns: where their hits lie, and pattern memory. (Document 01, "Patterns"; document 02, §2; refusals 10, 15 and 18.)
-use Rattle.std.specs.Prelude.{Bool, true, false, cond, ◌&&◌, List, [], ◌∷◌, ℕ, zero, suc, ◌+◌, ◌-◌, ◌*◌, ℤ, pos, neg_ℤ, ◌+ℤ◌, ◌-ℤ◌, ◌*ℤ◌, get_or}
+use Rattle.std.specs.Prelude.{Bool, true, cond, ◌&&◌, ℕ, zero, suc, ◌-◌, ◌*◌, ℤ, pos, ◌+ℤ◌, ◌-ℤ◌, ◌*ℤ◌, get_or}
 use Rattle.sine.specs.Series.{nearest}
 use Rattle.sine.specs.Sine.{full_turn, sine, cosine, offset}
 use Rattle.aries.specs.declared.point.Point.{Point}
@@ -14,7 +14,7 @@ use Rattle.aries.specs.declared.state.Memory.{Memory}
 use Rattle.aries.specs.declared.state.State.{State}
 use Rattle.aries.specs.declared.state.Frame.{Frame}
 use Rattle.aries.specs.declared.state.Progress.{Progress}
-use Rattle.aries.specs.Outcome.{Out, done, refused, ◌>>=◌, need}
+use Rattle.aries.specs.Outcome.{Out, refused, ◌>>=◌, need}
 use Rattle.aries.specs.Entries.{Made, no_entry, and_then, map_after}
 use Rattle.aries.specs.Judging.{Judging, judged, is_near}
 use Rattle.aries.specs.Lanes.{lane, along}

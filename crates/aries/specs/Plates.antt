@@ -9,7 +9,6 @@ use Rattle.aries.specs.declared.setup.Program.{Program}
 use Rattle.aries.specs.Outcome.{Out, done, refused}
 use Rattle.aries.specs.Text.{bytes, lines, without_spaces}
 use Rattle.aries.specs.declared.entry.Entry.{Entry}
-use Rattle.aries.specs.declared.entry.Entry.TheVariants as Entry
 use Rattle.aries.specs.Entries.{Made, cells}
 use Rattle.aries.specs.Judging.{lending, limits}
 use Rattle.aries.specs.Moves.{point_at, zero_point}

@@ -1,13 +1,11 @@
 -- The whole program: blocks outside bodies, their order, and the answer to a text. (Document 01, "The seventeen refusals,
 -- in checking order"; refusals 1, 2, 3, 7, 8 and 9.)
-use Rattle.std.specs.Prelude.{Bool, true, false, not, List, [], ◌∷◌, ◌++◌, ℕ, zero, suc, ◌+◌, ◌-◌, ℤ, pos, length, replicate}
+use Rattle.std.specs.Prelude.{Bool, true, false, not, List, [], ◌∷◌, ◌++◌, ℕ, suc, ◌+◌, ◌-◌, ℤ, pos, length, replicate}
 use Rattle.std.proofs.Math.Option.{Option, none, some}
 use Rattle.aries.specs.declared.answer.Answer.{Answer}
 use Rattle.aries.specs.declared.answer.Answer.TheVariants.{Entries, Refused}
 use Rattle.aries.specs.declared.block.Outside.{Outside}
-use Rattle.aries.specs.declared.block.Outside.TheVariants as Outside
 use Rattle.aries.specs.declared.block.Block.{Block}
-use Rattle.aries.specs.declared.block.Block.TheVariants as Block
 use Rattle.aries.specs.declared.job.Job.{Job}
 use Rattle.aries.specs.declared.machine.Machine.{Machine}
 use Rattle.aries.specs.declared.machine.Named.{Named}

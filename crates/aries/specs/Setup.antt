@@ -1,6 +1,6 @@
 -- What G92, G93 and G98 set up: the machine, the layout and the origin. (Document 01, "Moving and punching", "Macros and
 -- layouts"; refusals 8 and 15.)
-use Rattle.std.specs.Prelude.{Bool, true, false, cond, ℕ}
+use Rattle.std.specs.Prelude.{ℕ}
 use Rattle.aries.specs.declared.job.Job.{Job}
 use Rattle.aries.specs.declared.point.Point.{Point}
 use Rattle.aries.specs.declared.block.Axes.{Axes}
@@ -10,7 +10,7 @@ use Rattle.aries.specs.declared.setup.Sheet.{Sheet}
 use Rattle.aries.specs.declared.setup.Sheet.TheVariants.{Plain, LaidOut}
 use Rattle.aries.specs.declared.setup.Setup.{Setup}
 use Rattle.aries.specs.declared.state.Frame.{Frame}
-use Rattle.aries.specs.Outcome.{Out, done, refused, ◌>>=◌, need}
+use Rattle.aries.specs.Outcome.{Out, done, ◌>>=◌, need}
 use Rattle.aries.specs.Judging.{Judging, judged, near}
 use Rattle.aries.specs.Mirrors.{no_mirror}
 use Rattle.aries.specs.Moves.{zero_point, ◌⊕◌, written_over}

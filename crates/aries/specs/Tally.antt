@@ -1,7 +1,6 @@
 -- The tally of hits by tool, as it is taken from a finished list. (Document 02, §4.)
 use Rattle.std.specs.Prelude.{Bool, false, cond, List, [], ◌∷◌, ◌++◌, ℕ, zero, suc, ◌+◌, ◌*◌, eqb, length, replicate}
 use Rattle.aries.specs.declared.entry.Entry.{Entry}
-use Rattle.aries.specs.declared.entry.Entry.TheVariants as Entry
 use Rattle.aries.specs.Numbers.{last_tool}
 
 -- ---- Where a tool stands

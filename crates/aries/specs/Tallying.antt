@@ -1,7 +1,6 @@
 -- A tally as it is kept up while entries come. That it is then the one of the finished list (`Tally`) is proved.
 use Rattle.std.specs.Prelude.{cond, ◌&&◌, List, ℕ, ◌+◌, ◌-◌, ◌*◌, eqb, ltb, get_or, set}
 use Rattle.aries.specs.declared.entry.Entry.{Entry}
-use Rattle.aries.specs.declared.entry.Entry.TheVariants as Entry
 use Rattle.aries.specs.Test.{within}
 use Rattle.aries.specs.Numbers.{last_tool}
 

@@ -1,6 +1,7 @@
 // ARIES punch code: the types that a program text is read into and carried out with.
 // What they mean is said by the definitions in specs/, which follow document 01 in its order.
 #![tactic(auto)]
+
 pub mod answer; // what a text comes to
 pub mod block; // what a block asks for
 pub mod entry; // the entries of the list

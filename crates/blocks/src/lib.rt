@@ -1,5 +1,6 @@
 // From the words of a block to what it asks for: its kind, refusals 5 and 6, and the block of its kind.
 #![tactic(auto)]
+
 ghost use Rattle.std.specs.Prelude.{◌≡◌};
 ghost use Rattle.blocks.specs.Decoding.{judged_of, letters_left};
 ghost use Rattle.lengths.specs.Sized.{SizedLists};

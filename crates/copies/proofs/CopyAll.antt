@@ -24,7 +24,7 @@ use Rattle.aries.specs.Runs.{Lent, Carried}
 use Rattle.aries.specs.Setup.{frame_at}
 use Rattle.aries.proofs.Runs.{no_entry_then}
 use Rattle.placing.specs.Places.{all_near, last_copy}
-use Rattle.placing.proofs.AllNear.{all_near, some_far}
+use Rattle.placing.proofs.AllNear.{all_near_lem, some_far}
 use Rattle.aries.proofs.WidePoints.{at-passed, far_failed}
 use Rattle.copies.specs.Copying.{blank_part, all_copies}
 
@@ -112,7 +112,7 @@ module _ (f : Frame) (line : ℕ) (l : Layout) (c : Copies) (g : Progress) where
       let q = at-passed (all_near f.origin l) (copy_place f.origin l c last) e in
       let n : copy_count l ≡ suc last = omega arith in
       ap (λ (k : ℕ). copy_all (limits f.job) blank_part f line g.state (copy_place f.origin l c) k 0 g) n
-      ∙ blanks-near f.job f line g.state (copy_place f.origin l c) last 0 last g (omega arith) (λ i h. all_near f.origin l c i (omega arith) q.0)
+      ∙ blanks-near f.job f line g.state (copy_place f.origin l c) last 0 last g (omega arith) (λ i h. all_near_lem f.origin l c i (omega arith) q.0)
       ∙ ap (λ (p : Point). no_entry (with_state g (copy_start g.state p))) (sym q.1)
 
   pub blank_refused : last_copy f.origin l c ≡ TooFar → all_copies (limits f.job) blank_part f line l c g ≡ refused 15 line

@@ -1,5 +1,6 @@
 // From the bytes of a line to what its block asks for: refusals 4, 5 and 6.
 #![tactic(auto)]
+
 ghost use Rattle.std.specs.Prelude.{◌≡◌};
 ghost use Rattle.decode.specs.Decoding.{decoded_at};
 

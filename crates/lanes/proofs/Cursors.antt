@@ -2,7 +2,7 @@
 use mathlib.Core.Path.{◌≡◌, sym, ap, ap₂, ◌∙◌}
 use mathlib.Core.Bool.{cond}
 use Prim.Native.Nat.{ℕ, suc, ◌+◌, ◌-◌, ◌*◌, ◌/◌, ◌%◌, ◌≤◌, ◌<◌}
-use native.Mathlib.Nat.{div-add-mod', div-eq_of_lt, div-le_self, div-lt_iff_lt-mul, mod-eq_of_lt, mod-lt, mul-add-div_right, mul-add-mod_self_right, zero-div, zero-mod}
+use native.Mathlib.Nat.{div-add-mod', div-eq_of_lt, div-le_self, mod-eq_of_lt, mod-lt, mul-add-div_right, mul-add-mod_self_right, zero-div, zero-mod}
 use native.Mathlib.Omega.{arith}
 use lib.Dec.{eqb}
 use Rattle.lanes.specs.declared.Cursor.{Cursor}

@@ -1,5 +1,6 @@
 // Back and forth through lanes of equal length, place by place: grids and layouts go so.
 #![tactic(auto)]
+
 ghost use Rattle.std.specs.Prelude.{◌≡◌, suc, ◌≤◌};
 ghost use Rattle.aries.specs.Lanes.{lane, along};
 ghost use Rattle.lanes.specs.Cursors.{cursor_at, passed};

@@ -1,5 +1,5 @@
 -- Laws of `all_near`: it holds exactly where every place of the layout is near.
-use mathlib.Core.Path.{◌≡◌, refl, sym, ap, ap₂, ◌∙◌}
+use mathlib.Core.Path.{◌≡◌, refl, ap, ap₂, ◌∙◌}
 use mathlib.Core.Bool.{Bool, true, false, cond, ◌&&◌}
 use Prim.Native.Nat.{ℕ, suc, ◌+◌, ◌-◌, ◌*◌, ◌≤◌, ◌<◌}
 use native.Mathlib.Nat.{mul-le-mul, le_refl}
@@ -12,7 +12,7 @@ use Rattle.aries.specs.declared.block.Copies.{Copies}
 use Rattle.aries.specs.declared.block.Layout.{Layout}
 use Rattle.aries.specs.declared.point.Point.{Point}
 use Rattle.aries.specs.Judging.{is_near, near, farthest}
-use Rattle.aries.specs.Layouts.{copy_count, column_of, row_of, from_right, from_top, facing, place_at, copy_place}
+use Rattle.aries.specs.Layouts.{copy_count, from_right, from_top, facing, place_at, copy_place}
 use Rattle.aries.specs.Moves.{point_at, ◌⊕◌}
 use Rattle.aries.proofs.CopyPlaces.{column_bound, row_bound, copy_at}
 use Rattle.aries.proofs.Judging.{near-x, near-y}
@@ -49,9 +49,9 @@ module _ (o : Point) (l : Layout) (k : Copies) where
   coordinate a far last n pitch h e f =
       le-leb _ farthest (between a (0 * pitch) (facing far last n * pitch) (last * pitch) (omega arith) (mul-le-mul (facing-within far last n h) (le_refl pitch)) e f)
 
-  pub all_near : (m : ℕ) → m < copy_count l → all_near o l ≡ true → near (copy_place o l k m) ≡ true
+  pub all_near_lem : (m : ℕ) → m < copy_count l → all_near o l ≡ true → near (copy_place o l k m) ≡ true
   unfolding near copy_place
-  all_near m h e =
+  all_near_lem m h e =
       let low = cell o l 0 0 in
       let high = cell o l l.steps.x l.steps.y in
       let a = and_left (near low) (near high) e in

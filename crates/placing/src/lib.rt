@@ -1,5 +1,6 @@
 // The places of a layout: where its copies lie, and in which order.
 #![tactic(auto)]
+
 ghost use Rattle.std.specs.Prelude.{◌≡◌, ◌*◌, ◌≤◌, pos, ◌+ℤ◌};
 ghost use Rattle.aries.specs.Judging.{near};
 ghost use Rattle.aries.specs.Layouts.{copy_count, from_right, from_top, facing, place_at, copy_place};

@@ -1,6 +1,7 @@
 // Arithmetic on signed numbers, each function with its result as an equation in the integers. Positions are i32 and what is computed from
 // them is i64, wide enough for a sum or a product of a few of them, so that hardly a function asks anything of its arguments.
 #![tactic(auto)]
+
 ghost use Rattle.std.specs.Prelude.{◌≡◌, ◌&&◌, ◌*◌, ◌≤◌, leb, pos, nat_abs, ◌+ℤ◌, ◌-ℤ◌, ◌*ℤ◌};
 ghost use Rattle.std.specs.Int.Signed.{le_z, lt_z};
 ghost use Rattle.signed.specs.Signed.{eq_z, wide_limit, with_sign};

@@ -1,5 +1,6 @@
 // Sine and cosine of angles in hundredths of a degree, in units of 10^-9, and the offsets that they give.
 #![tactic(auto)]
+
 ghost use Rattle.std.specs.Prelude.{◌≡◌, ◌≤◌, ◌<◌, pos, nat_abs, ◌+ℤ◌, ◌-ℤ◌};
 ghost use Rattle.signed.specs.Signed.{wide_limit};
 ghost use Rattle.sine.specs.Series.{

@@ -1,5 +1,6 @@
 // Direct blocks one after another, in a body and outside bodies.
 #![tactic(auto)]
+
 ghost use Rattle.std.specs.Prelude.{◌≡◌, drop};
 ghost use Rattle.aries.specs.declared.state.Status.TheVariants.{Passed, Refused};
 ghost use Rattle.aries.specs.Reader.{reader_of};

@@ -1,5 +1,6 @@
 // A drawing's hole table: lines of X, Y and tool, read into three numbers a row.
 #![tactic(auto)]
+
 mod number; // numbers of a line
 mod row; // a row
 

@@ -1,5 +1,6 @@
 // The tally of hits by tool, kept up as blocks make entries.
 #![tactic(auto)]
+
 ghost use Rattle.std.specs.Prelude.{◌≡◌, cond, ◌+◌, eqb};
 ghost use Rattle.aries.specs.Tallying.{capped, with_hits};
 ghost use Rattle.aries.specs.Tally.{no_tally};

@@ -1,5 +1,6 @@
 // The bytes of a program text: which are allowed, the text without its spaces, and where its lines end.
 #![tactic(auto)]
+
 ghost use Rattle.std.specs.Prelude.{◌≡◌, ◌+◌, ◌≤◌, leb, length, drop};
 ghost use Rattle.aries.specs.Test.{every};
 ghost use Rattle.aries.specs.Text.{is_allowed, stray_line, lines};

@@ -1,5 +1,6 @@
 // The expander of ARIES punch code: from a program text to its list of entries, hits and stops, and their tally by tool.
 #![tactic(auto)]
+
 pub mod exported; // the function that tolkjirp_c exports
 
 ghost use Rattle.std.specs.Prelude.{◌≡◌, ◌++◌, ◌+◌, ◌-◌, ◌*◌, ◌≤◌, pos, length, take, replicate};
@@ -152,6 +153,7 @@ fn expand_long(
 // Expands a program text, at the decimal point setting that a number states, 0 or any other for 1, into a lent list, four
 // numbers an entry: X, Y, tool and mode, and a lent tally, three numbers a tool: its hits, and the first and the last index
 // where it stands. What the entries leave of the list is zero, and after a refusal all of list and tally.
+#[tactic(auto, using(crate::proofs::Endings::expand_empty, crate::proofs::Endings::expand_long, crate::proofs::Endings::expand_through))]
 pub fn expand(setting: i32, text: &[u8], list: &mut [i32], tally: &mut [u64; FIGURES]) -> Answer
     ensures { Answers result list.new tally.new (length list.old) (expand setting text.now (length list.old)) }
 {

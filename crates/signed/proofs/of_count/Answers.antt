@@ -1,5 +1,4 @@
 -- A count of 16 bits lies in the lower half of 32. Assumes nothing.
-use borrow.Author.Rules.{rules}
 use Prim.Native.Nat.{◌<◌, ◌^◌}
 use native.Mathlib.Omega.{arith}
 use mir.Syntax.{w32}

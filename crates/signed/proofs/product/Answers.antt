@@ -1,5 +1,4 @@
 -- The product of a count and a number of 32 bits fits 64. Assumes nothing.
-use borrow.Author.Rules.{rules}
 use native.Mathlib.Omega.{arith}
 use Prim.Native.Nat.{◌<◌, ◌^◌}
 use lib.IntN.{pos, ◌*ℤ◌}
@@ -16,6 +15,7 @@ module _ (c : Start) where
 
   fits : SFits w64 (pos c.args.n *ℤ c.args.a)
   fits = product_fits (pos c.args.n) c.args.a (count_fits c.args.n (omega arith)) c.ranges.a
+
 pub overflow_cast-result-2 : goal.overflow_cast-result-2
 overflow_cast-result-2 c = read_wide c.args.a c.ranges.a
 

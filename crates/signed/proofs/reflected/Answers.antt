@@ -29,6 +29,7 @@ module _ (s : Start) where
   all-fits : SFits w64 (s.args.a +ℤ (s.args.b -ℤ (s.args.c -ℤ s.args.a)))
   all-fits =
       fits_abs w64 _ 1000006442450944 (abs_add s.args.a (s.args.b -ℤ (s.args.c -ℤ s.args.a)) 2147483648 1000004294967296 size-a size-beyond) (lit< tt)
+
 pub overflow_cast-result : goal.overflow_cast-result
 overflow_cast-result c = read_wide c.args.a c.ranges.a
 

@@ -26,6 +26,7 @@ module _ (c : Start) where
       fits_abs w64 (c.args.a +ℤ pos (c.args.n * c.args.p)) 281472829161473
       (abs_add c.args.a (pos (c.args.n * c.args.p)) 2147483648 281470681677825 (abs_word c.args.a c.ranges.a) product-bound)
       (lit< tt)
+
 pub overflow_cast-result : goal.overflow_cast-result
 overflow_cast-result c = read_wide c.args.a c.ranges.a
 

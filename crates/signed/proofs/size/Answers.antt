@@ -1,5 +1,4 @@
 -- A negative number is turned round at 64 bits, where its opposite fits; any other is its own size. Assumes nothing.
-use borrow.Author.Rules.{rules}
 use mathlib.Core.Path.{◌≡◌}
 use mathlib.Core.Bool.{true, false}
 use lib.Dec.{lit<}
@@ -44,4 +43,3 @@ overflow_cast-result-else-a-lt0 c =
 pub returns-then-a-lt0 : goal.returns-then-a-lt0
 returns-then-a-lt0 c =
     simp (widened c.args.a c.ranges.a, zero_minus, to_z-of_z (opposite c.before), abs_neg)
-

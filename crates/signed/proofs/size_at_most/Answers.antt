@@ -1,5 +1,4 @@
 -- The size is within n where the number lies between minus n and n. Assumes nothing.
-use borrow.Author.Rules.{rules}
 use mathlib.Core.Path.{◌≡◌, sym, ap, ◌∙◌}
 use mathlib.Core.Bool.{Bool, true, false, ◌&&◌}
 use native.Mathlib.Omega.{arith}
@@ -23,6 +22,7 @@ module _ (c : Start) where
   fits =
       let h : c.args.n ≤ 4294967295 = omega arith in
       fits_abs w64 (neg_ℤ (pos c.args.n)) 4294967295 (rw (abs_neg (pos c.args.n)) h) (lit< tt)
+
 -- the first test, of the numbers themselves
 above : (c : Then-limit-a) → le_z (neg_ℤ (pos c.args.n)) c.args.a ≡ true
 above c =

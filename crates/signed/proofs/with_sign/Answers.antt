@@ -1,5 +1,4 @@
 -- The size lies in the lower half of 32 bits, and so does its opposite. Assumes nothing.
-use borrow.Author.Rules.{rules}
 use native.Mathlib.Omega.{arith}
 use Prim.Native.Nat.{◌<◌, ◌^◌}
 use lib.Dec.{lit<}
@@ -17,6 +16,7 @@ module _ (c : Start) where
 
   opposite : SFits w32 (neg_ℤ (pos c.args.n))
   opposite = fits_abs w32 (neg_ℤ (pos c.args.n)) 2147483647 (rw (abs_neg (pos c.args.n)) c.requires) (lit< tt)
+
 pub overflow_sub-result : goal.overflow_sub-result
 overflow_sub-result c = simp (to_z_pos w32 (n-small c.before), zero_minus) (opposite c.before)
 

@@ -2,7 +2,6 @@
 use mir.Syntax.{w64}
 use mir.Facts.{to_z-of_z}
 use Rattle.signed.proofs.Integers.{read_back}
-use borrow.Author.Rules.{rules}
 use Rattle.sine.proofs.direction_at.Goals as goal
 
 pub returns : goal.returns

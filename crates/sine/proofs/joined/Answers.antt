@@ -1,5 +1,4 @@
 -- Each product is at most 10^18, so that their sum fits and its quotient is at most 2 × 10^9. Assumes nothing.
-use borrow.Author.Rules.{rules}
 use Prim.Native.Nat.{◌*◌, ◌≤◌}
 use native.Mathlib.Nat.{mul-le-mul}
 use native.Mathlib.Omega.{arith}
@@ -12,6 +11,7 @@ module _ (c : Start) where
 
   second : c.args.cosine1 * c.args.sine2 ≤ 1000000000000000000
   second = mul-le-mul c.requires.1.0 c.requires.1.1.0
+
 pub overflow_mul-sum : goal.overflow_mul-sum
 overflow_mul-sum c = omega (arith, first c)
 
@@ -26,4 +26,3 @@ nearest-requires c = omega (arith, first c, second c)
 
 pub overflow_cast-result : goal.overflow_cast-result
 overflow_cast-result c = omega (arith, first c.before, second c.before)
-

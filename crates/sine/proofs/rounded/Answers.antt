@@ -42,12 +42,14 @@ module _ (c : After-nearest) where
   opposite-fits : SFits w64 (neg_ℤ (pos c.nearest.result))
   opposite-fits =
       fits_abs w64 (neg_ℤ (pos c.nearest.result)) 9000000001 (rw (abs_neg (pos c.nearest.result)) small-below) (lit< tt)
+
 module _ (c : After-nearest-else-z-lt0) where
   size_above : c.nearest-else-z-lt0.result ≡ nearest (nat_abs c.args.z) one
   size_above = simp (to_z-of_z c.ranges.z) at c.nearest-else-z-lt0.ensures
 
   word-above : c.nearest-else-z-lt0.result < 2 ^ 63
   word-above = omega (arith, size_above)
+
 pub overflow_sub-z : goal.overflow_sub-z
 overflow_sub-z c = simp (to_z-of_z c.ranges.z, zero_minus) (opposite c.before)
 

@@ -26,6 +26,7 @@ module _ (c : Start) where
 
   turn-narrow : Fits w32 (turn c.args.angle)
   turn-narrow = record { fits = omega (arith, turn_small c.args.angle) }
+
 below : (c : Then-rest-lt0) → rem_z c.args.angle (pos 36000) +ℤ pos 36000 ≡ pos (turn c.args.angle)
 below c =
     turn_below c.args.angle

@@ -2,7 +2,6 @@
 use mathlib.Core.Path.{sym, ap, ◌∙◌}
 use Prim.Native.Nat.{ℕ, ◌+◌, ◌-◌, ◌*◌}
 use native.Mathlib.Omega.{arith}
-use borrow.Author.Rules.{rules}
 use Rattle.aries.specs.Tallying.{with_figures, figure, capped}
 use Rattle.aries.proofs.Tally.{with_hits_noted, with_hits_no_tool, with_hits-past_tools, with_no_hits}
 use Rattle.tallies.proofs.count_hits.Goals as goal

@@ -1,8 +1,6 @@
 -- The sum, or the largest number where it is above that.
-use mathlib.Core.Path.{◌≡◌}
 use Prim.Native.Nat.{◌+◌, ◌<◌, ◌≤◌}
 use native.Mathlib.Omega.{arith}
-use borrow.Author.Rules.{rules}
 use borrow.Author.Tests.{lt-ltb, le-ltb}
 use Rattle.aries.specs.Tallying.{too_wide}
 use Rattle.tallies.proofs.more_hits.Goals as goal

@@ -1,7 +1,7 @@
-use mathlib.Core.Path.{◌≡◌, sym, ap, ◌∙◌}
+use mathlib.Core.Path.{sym, ap, ◌∙◌}
 use mathlib.Core.Bool.{Bool, ◌&&◌, and_assoc, and-true}
-use Prim.Native.Nat.{◌+◌, ◌-◌}
-use lib.ListN.{length, drop}
+use Prim.Native.Nat.{◌+◌}
+use lib.ListN.{drop}
 use borrow.Author.Rules.{rules}
 use Rattle.aries.specs.Test.{every}
 use Rattle.aries.specs.Text.{is_allowed}

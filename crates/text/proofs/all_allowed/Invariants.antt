@@ -1,12 +1,10 @@
 -- The invariant: whether all bytes so far and all from here on are allowed is whether all are. Assumes nothing.
-use mathlib.Core.Path.{◌≡◌, sym, ap, ◌∙◌}
-use mathlib.Core.Bool.{Bool, ◌&&◌, and_assoc, and-true}
-use Prim.Native.Nat.{◌+◌, ◌-◌}
+use mathlib.Core.Path.{◌≡◌}
+use mathlib.Core.Bool.{◌&&◌}
+use Prim.Native.Nat.{◌-◌}
 use lib.ListN.{length, drop}
-use borrow.Author.Rules.{rules}
 use Rattle.aries.specs.Test.{every}
 use Rattle.aries.specs.Text.{is_allowed}
-use Rattle.text.proofs.Cleaning.{allowed_at, allowed_past}
 use Rattle.text.proofs.all_allowed.Given as goal
 
 abbrev pub invariant-loop-i : goal.invariant-loop-i

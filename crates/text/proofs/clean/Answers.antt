@@ -1,6 +1,5 @@
 -- Where all bytes are allowed they are copied; else one is stray. Assumes nothing.
 use mathlib.Core.Path.{sym, ◌∙◌}
-use borrow.Author.Rules.{rules}
 use Rattle.text.proofs.Cleaning.{dense_cleaned, stray_cleaned}
 use Rattle.text.proofs.clean.Goals as goal
 

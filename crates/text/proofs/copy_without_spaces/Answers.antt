@@ -1,11 +1,8 @@
-use mathlib.Core.Path.{◌≡◌}
-use mathlib.Core.List.{◌++◌}
 use mathlib.Core.Logic.{⊎_elim}
-use Prim.Native.Nat.{◌-◌, ◌≤◌, ◌<◌}
+use Prim.Native.Nat.{◌<◌}
 use native.Mathlib.Omega.{arith}
 use borrow.Author.Rules.{rules}
-use lib.ListN.{length, take, drop, length-set}
-use Rattle.aries.specs.Text.{without_spaces}
+use lib.ListN.{length, length-set}
 use Rattle.text.proofs.Cleaning.{copied_other, copied-space, copied_all}
 use Rattle.text.proofs.copy_without_spaces.Goals as goal
 

@@ -2,13 +2,9 @@
 -- Assumes nothing.
 use mathlib.Core.Path.{◌≡◌}
 use mathlib.Core.List.{◌++◌}
-use mathlib.Core.Logic.{⊎_elim}
-use Prim.Native.Nat.{◌-◌, ◌≤◌, ◌<◌}
-use native.Mathlib.Omega.{arith}
-use borrow.Author.Rules.{rules}
-use lib.ListN.{length, take, drop, length-set}
+use Prim.Native.Nat.{◌-◌, ◌≤◌}
+use lib.ListN.{length, take, drop}
 use Rattle.aries.specs.Text.{without_spaces}
-use Rattle.text.proofs.Cleaning.{copied_other, copied-space, copied_all}
 use Rattle.text.proofs.copy_without_spaces.Given as goal
 
 abbrev pub invariant-loop-i : goal.invariant-loop-i

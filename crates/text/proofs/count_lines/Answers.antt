@@ -1,8 +1,7 @@
 use mathlib.Core.Path.{◌≡◌, ap}
-use Prim.Native.Nat.{ℕ, ◌+◌, ◌-◌, ◌≤◌}
+use Prim.Native.Nat.{ℕ, ◌+◌, ◌≤◌}
 use native.Mathlib.Omega.{arith}
 use lib.ListN.{length, drop}
-use borrow.Author.Rules.{rules}
 use Rattle.aries.specs.Text.{lines}
 use Rattle.text.proofs.Lines.{line-inside, count_at, count_past, count_small}
 use Rattle.text.proofs.count_lines.Goals.{After-line_end-at}

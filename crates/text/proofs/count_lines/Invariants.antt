@@ -1,11 +1,8 @@
 -- The invariant: the lines counted and those from here on are all.
-use mathlib.Core.Path.{◌≡◌, ap}
-use Prim.Native.Nat.{ℕ, ◌+◌, ◌-◌, ◌≤◌}
-use native.Mathlib.Omega.{arith}
+use mathlib.Core.Path.{◌≡◌}
+use Prim.Native.Nat.{◌+◌, ◌-◌, ◌≤◌}
 use lib.ListN.{length, drop}
-use borrow.Author.Rules.{rules}
 use Rattle.aries.specs.Text.{lines}
-use Rattle.text.proofs.Lines.{line-inside, count_at, count_past, count_small}
 use Rattle.text.proofs.count_lines.Given as goal
 
 abbrev pub invariant-loop-at : goal.invariant-loop-at

@@ -1,8 +1,4 @@
-use mathlib.Core.Path.{◌≡◌}
-use Prim.Native.Nat.{◌+◌, ◌-◌}
 use native.Mathlib.Omega.{arith}
-use lib.ListN.{length, drop}
-use Rattle.text.specs.Lines.{line_length}
 use Rattle.text.proofs.Lines.{line-ends, line-goes_on, line-past}
 use Rattle.text.proofs.line_end.Goals as goal
 

@@ -1,10 +1,8 @@
 -- The invariant: the line has the same end from here as from the start. Assumes nothing.
 use mathlib.Core.Path.{◌≡◌}
 use Prim.Native.Nat.{◌+◌, ◌-◌}
-use native.Mathlib.Omega.{arith}
 use lib.ListN.{length, drop}
 use Rattle.text.specs.Lines.{line_length}
-use Rattle.text.proofs.Lines.{line-ends, line-goes_on, line-past}
 use Rattle.text.proofs.line_end.Given as goal
 
 abbrev pub invariant-loop-i : goal.invariant-loop-i

@@ -1,9 +1,4 @@
-use mathlib.Core.Path.{◌≡◌}
-use Prim.Native.Nat.{◌+◌, ◌-◌}
 use native.Mathlib.Omega.{arith}
-use lib.ListN.{length, drop}
-use borrow.Author.Rules.{rules}
-use Rattle.text.specs.Lines.{blanks}
 use Rattle.text.proofs.Lines.{blanks_go_on, blanks_end, blanks-past}
 use Rattle.text.proofs.next_block.Goals as goal
 

@@ -1,11 +1,8 @@
 -- The invariant: the next block lies where it lay from the start. Assumes nothing.
 use mathlib.Core.Path.{◌≡◌}
 use Prim.Native.Nat.{◌+◌, ◌-◌}
-use native.Mathlib.Omega.{arith}
 use lib.ListN.{length, drop}
-use borrow.Author.Rules.{rules}
 use Rattle.text.specs.Lines.{blanks}
-use Rattle.text.proofs.Lines.{blanks_go_on, blanks_end, blanks-past}
 use Rattle.text.proofs.next_block.Given as goal
 
 abbrev pub invariant-loop-i : goal.invariant-loop-i

@@ -1,12 +1,8 @@
 -- The invariant: the next block lies where it lay from the start. Assumes nothing.
-use mathlib.Core.Path.{◌≡◌, sym, ◌∙◌}
-use Prim.Native.Nat.{◌+◌, ◌-◌, ◌≤◌}
-use native.Mathlib.Omega.{arith}
-use lib.ListN.{length, drop, length-drop}
-use borrow.Author.Rules.{rules}
-use borrow.Author.Tests.{leb-true}
+use mathlib.Core.Path.{◌≡◌}
+use Prim.Native.Nat.{◌+◌, ◌-◌}
+use lib.ListN.{length, drop}
 use Rattle.text.specs.Lines.{blanks}
-use Rattle.text.proofs.Lines.{blanks-short, blanks-drop}
 use Rattle.text.proofs.skip_eights.Given as goal
 
 abbrev pub invariant-loop-i : goal.invariant-loop-i

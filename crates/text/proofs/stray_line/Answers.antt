@@ -1,12 +1,11 @@
 use mathlib.Core.Path.{◌≡◌, sym, ap, ◌∙◌}
 use mathlib.Core.Bool.{true}
 use mathlib.Core.Logic.{⊎_elim}
-use Prim.Native.Nat.{◌+◌, ◌-◌, ◌≤◌, ◌<◌}
+use Prim.Native.Nat.{◌<◌}
 use native.Mathlib.Omega.{arith}
 use borrow.Author.Rules.{rules}
-use borrow.Author.Tests.{not-true, not-false}
-use lib.ListN.{length, drop, get_or}
-use Rattle.aries.specs.Text.{is_allowed, stray_line}
+use lib.ListN.{length, get_or}
+use Rattle.aries.specs.Text.{is_allowed}
 use Rattle.text.specs.Cleaning.{or_zero}
 use Rattle.text.proofs.Cleaning.{stray_here, stray_feed, stray_other, stray_past}
 use Rattle.text.proofs.stray_line.Goals as goal

@@ -1,15 +1,8 @@
 -- The invariant: from here on the text has the same first stray byte. Assumes nothing.
-use mathlib.Core.Path.{◌≡◌, sym, ap, ◌∙◌}
-use mathlib.Core.Bool.{true}
-use mathlib.Core.Logic.{⊎_elim}
-use Prim.Native.Nat.{◌+◌, ◌-◌, ◌≤◌, ◌<◌}
-use native.Mathlib.Omega.{arith}
-use borrow.Author.Rules.{rules}
-use borrow.Author.Tests.{not-true, not-false}
-use lib.ListN.{length, drop, get_or}
-use Rattle.aries.specs.Text.{is_allowed, stray_line}
-use Rattle.text.specs.Cleaning.{or_zero}
-use Rattle.text.proofs.Cleaning.{stray_here, stray_feed, stray_other, stray_past}
+use mathlib.Core.Path.{◌≡◌}
+use Prim.Native.Nat.{◌+◌, ◌-◌, ◌≤◌}
+use lib.ListN.{length, drop}
+use Rattle.aries.specs.Text.{stray_line}
 use Rattle.text.proofs.stray_line.Given as goal
 
 abbrev pub invariant-loop-i : goal.invariant-loop-i

@@ -1,6 +1,5 @@
 -- An even lane goes forward, an odd one back: the rest is that of the cursor's place. Assumes nothing.
 use Prim.Native.Nat.{◌%◌}
-use borrow.Author.Rules.{rules}
 use borrow.Author.Tests.{eq-eqb, ne_eqb}
 use Rattle.lanes.proofs.Cursors.{along-passed}
 use Rattle.lanes.proofs.Cursor.along.Goals as goal

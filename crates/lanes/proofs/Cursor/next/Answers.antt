@@ -1,7 +1,6 @@
 -- The cursor that is made is that of the next place, and its lane fits. Assumes nothing.
 use mathlib.Core.Path.{ap}
 use native.Mathlib.Omega.{arith}
-use borrow.Author.Rules.{rules}
 use Rattle.lanes.specs.declared.Cursor.{Cursor}
 use Rattle.lanes.proofs.Cursors.{next-inside, next-lane}
 use Rattle.lanes.proofs.Cursor.next.Goals as goal

@@ -1,4 +1,4 @@
--- The direction of the angle is the callee's, and leads where the angle does. Assumes nothing.
+-- The direction of the angle is the callee's, and leads where the angle does.
 use mathlib.Core.Path.{◌≡◌, ◌∙◌, ap}
 use mir.Facts.{to_z-of_z}
 use Rattle.sine.specs.Sine.{direction_of}
@@ -13,8 +13,8 @@ direction-is c = simp (to_z-of_z c.ranges.angle) at c.direction_of.ensures
 
 pub returns : goal.returns
 returns c =
-    let a = c in record {
-      result_value = (simp (to_z-of_z a.ranges.radius, direction-is (goal.at.returns c).After-direction_of) at c.polar_place.ensures.result_value)
-          ∙ ap (λ (p : Point). a.args.start ⊕ p) (toward-polar a.args.radius a.args.angle);
+    record {
+      result_value = (simp (to_z-of_z c.ranges.radius, direction-is (goal.at.returns c).After-direction_of) at c.polar_place.ensures.result_value)
+          ∙ ap (λ (p : Point). c.args.start ⊕ p) (toward-polar c.args.radius c.args.angle);
       moderate = c.polar_place.ensures.moderate;
     }

@@ -1,4 +1,4 @@
--- The turn is added once, or taken away once. Assumes nothing.
+-- The turn is added once, or taken away once.
 use mathlib.Core.Path.{◌∙◌}
 use mir.Syntax.{w64}
 use mir.Facts.{to_z-of_z}
@@ -9,16 +9,14 @@ use Rattle.patterns.proofs.places.circle_angle.Goals as goal
 
 pub returns-then-clockwise : goal.returns-then-clockwise
 returns-then-clockwise c =
-    let a = c in
     simp (read_back w64 c.affine.result c.affine.type_inv)
     (simp c.if-clockwise.true
-    ((simp (to_z-of_z a.ranges.angle, c.turned-turn.ensures) at c.affine.ensures.value)
-    ∙ turn_back a.args.angle (turned a.args.n a.args.k)))
+    ((simp (to_z-of_z c.ranges.angle, c.turned-turn.ensures) at c.affine.ensures.value)
+    ∙ turn_back c.args.angle (turned c.args.n c.args.k)))
 
 pub returns-else-clockwise : goal.returns-else-clockwise
 returns-else-clockwise c =
-    let a = c in
     simp (read_back w64 c.affine-else-clockwise.result c.affine-else-clockwise.type_inv)
     (simp c.if-clockwise.false
-    ((simp (to_z-of_z a.ranges.angle, c.turned-turn.ensures) at c.affine-else-clockwise.ensures.value)
-    ∙ turn_forward a.args.angle (turned a.args.n a.args.k)))
+    ((simp (to_z-of_z c.ranges.angle, c.turned-turn.ensures) at c.affine-else-clockwise.ensures.value)
+    ∙ turn_forward c.args.angle (turned c.args.n c.args.k)))

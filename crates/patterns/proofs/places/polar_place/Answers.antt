@@ -1,4 +1,4 @@
--- The two coordinates, by cosine and by sine. Assumes nothing.
+-- The two coordinates, by cosine and by sine.
 use mathlib.Core.Path.{◌≡◌, ap₂, ◌∙◌}
 use mir.Syntax.{w32, w64}
 use mir.Val.{to_z, of_z}
@@ -23,12 +23,11 @@ sine-back c = search rules
 
 pub returns : goal.returns
 returns c =
-    let d = c in
     let a = (goal.at.returns c).Start in
-    let x-back = read_back w64 d.displaced.result d.displaced.type_inv in
+    let x-back = read_back w64 c.displaced.result c.displaced.type_inv in
     let y-back = read_back w64 c.displaced-2.result c.displaced-2.type_inv in record {
       result_value = ap₂ point_at
-          (x-back ∙ (simp (start-x a, cosine-back a, to_z-of_z a.ranges.distance) at d.displaced.ensures.value))
+          (x-back ∙ (simp (start-x a, cosine-back a, to_z-of_z a.ranges.distance) at c.displaced.ensures.value))
           (y-back ∙ (simp (start-y a, sine-back a, to_z-of_z a.ranges.distance) at c.displaced-2.ensures.value));
-      moderate = record { x = rw x-back d.displaced.ensures.result_bound; y = rw y-back c.displaced-2.ensures.result_bound };
+      moderate = record { x = rw x-back c.displaced.ensures.result_bound; y = rw y-back c.displaced-2.ensures.result_bound };
     }

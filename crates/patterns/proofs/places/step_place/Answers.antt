@@ -1,4 +1,4 @@
--- The two coordinates, each by the signed sum. Assumes nothing.
+-- The two coordinates, each by the signed sum.
 use mathlib.Core.Path.{◌≡◌, ap₂, ◌∙◌}
 use mir.Syntax.{w32, w64}
 use mir.Val.{to_z, of_z}
@@ -22,12 +22,11 @@ pitch-y c = search rules
 
 pub returns : goal.returns
 returns c =
-    let d = c in
     let a = (goal.at.returns c).Start in
-    let x-back = read_back w64 d.affine.result d.affine.type_inv in
+    let x-back = read_back w64 c.affine.result c.affine.type_inv in
     let y-back = read_back w64 c.affine-2.result c.affine-2.type_inv in record {
       result_value = ap₂ point_at
-          (x-back ∙ (simp (start-x a, pitch-x a) at d.affine.ensures.value))
+          (x-back ∙ (simp (start-x a, pitch-x a) at c.affine.ensures.value))
           (y-back ∙ (simp (start-y a, pitch-y a) at c.affine-2.ensures.value));
-      moderate = record { x = rw x-back d.affine.ensures.result_bound; y = rw y-back c.affine-2.ensures.result_bound };
+      moderate = record { x = rw x-back c.affine.ensures.result_bound; y = rw y-back c.affine-2.ensures.result_bound };
     }

@@ -1,4 +1,4 @@
--- The quotient is at most a full turn, so that it fits 16 bits. Assumes nothing.
+-- The quotient is at most a full turn, so that it fits 16 bits.
 use native.Mathlib.Omega.{arith}
 use Rattle.patterns.proofs.Circles.{turned_by, turned-small}
 use Rattle.patterns.proofs.places.turned.Goals as goal

@@ -30,10 +30,9 @@ is-series f line p g h e = simp (h, e)
 pub returns-then-not-shear_is_fit : goal.returns-then-not-shear_is_fit
 unfolding pattern
 returns-then-not-shear_is_fit c =
-    let d = c in
-    let a = d.args in
+    let a = c.args in
     carried-refused a.frame (λ j. pattern j a.frame a.line a.pattern) {g = a.progress} c.refused.ensures
-    (simp (sym d.shear_is_fit.ensures ∙ c.if-not-shear_is_fit.true))
+    (simp (sym c.shear_is_fit.ensures ∙ c.if-not-shear_is_fit.true))
 
 pub returns-then-not-reach_is_near : goal.returns-then-not-reach_is_near
 unfolding pattern
@@ -50,9 +49,7 @@ punch_series-made-requires c =
 
 pub returns : goal.returns
 returns c =
-    let h = c in
-    let s = c in
     let e = (goal.at.returns c).Else-not-reach_is_near in
     let a = e.args in
     rw (is-series a.frame a.line a.pattern a.progress (is-fit (goal.at.returns c).Else-not-shear_is_fit) (in_reach e), c.status_at.ensures, c.moved_to.ensures, c.dropping-dropped.ensures)
-    (rw s.start-start.ensures at (h.punch_series-made.ensures a.line (with_state a.progress (dropping a.progress.state))))
+    (rw c.start-start.ensures at (c.punch_series-made.ensures a.line (with_state a.progress (dropping a.progress.state))))

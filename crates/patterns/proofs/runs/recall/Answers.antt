@@ -1,4 +1,4 @@
--- What the memory holds says which way the definition goes. Assumes nothing.
+-- What the memory holds says which way the definition goes.
 use mathlib.Core.Path.{◌≡◌, sym, ap, ◌∙◌}
 use Prim.Native.Nat.{ℕ, ◌-◌}
 use lib.ListN.{get_or}
@@ -18,15 +18,12 @@ recalls j f line n g s e = ap (λ (t : Stored). recalled j f line t g) e
 
 pub returns-in-Empty : goal.returns-in-Empty
 returns-in-Empty c =
-    let d = c in
-    let a = d.args in
+    let a = c.args in
     carried-refused a.frame (λ j. recall j a.frame a.line a.n) {g = a.progress} c.refused.ensures
-    (recalls (limits a.frame.job) a.frame a.line a.n a.progress _ (sym d.memory-stored.ensures ∙ c.in-Empty.is))
+    (recalls (limits a.frame.job) a.frame a.line a.n a.progress _ (sym c.memory-stored.ensures ∙ c.in-Empty.is))
 
 pub returns-in-Kept : goal.returns-in-Kept
 returns-in-Kept c =
-    let e = c in
-    let d = c in
-    let a = d.args in
-    rw (recalls (limits a.frame.job) a.frame a.line a.n a.progress _ (sym d.memory-stored.ensures ∙ e.in-Kept.is))
+    let a = c.args in
+    rw (recalls (limits a.frame.job) a.frame a.line a.n a.progress _ (sym c.memory-stored.ensures ∙ c.in-Kept.is))
     c.carry_out.ensures

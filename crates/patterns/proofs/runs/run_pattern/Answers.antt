@@ -1,4 +1,4 @@
--- The pattern, from the progress that the definition gives it. Assumes nothing.
+-- The pattern, from the progress that the definition gives it.
 use mathlib.Core.Path.{◌≡◌, refl, ap, ◌∙◌}
 use Prim.Native.Nat.{ℕ}
 use Rattle.aries.specs.declared.block.Pattern.{Pattern}

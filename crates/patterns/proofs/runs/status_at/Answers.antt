@@ -1,4 +1,4 @@
--- A number that is not 0 is a refusal's. Assumes nothing.
+-- A number that is not 0 is a refusal's.
 use mathlib.Core.Path.{◌≡◌, sym, ap}
 use Prim.Native.Nat.{ℕ}
 use native.Mathlib.Omega.{arith}

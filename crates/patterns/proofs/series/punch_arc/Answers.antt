@@ -32,8 +32,7 @@ place_is : (c : After-arc_place-place)
     → point_of c.arc_place-place.result ≡ (arc (entry (turn c).before)).start ⊕ hit_offset (arc (entry (turn c).before)).pattern (turn c).loop-k.k
 unfolding hit_offset
 place_is c =
-    let t = c in
-    rw (read_back w64 t.affine-turned.result t.affine-turned.type_inv, t.affine-turned.ensures.value) at c.arc_place-place.ensures.result_value
+    rw (read_back w64 c.affine-turned.result c.affine-turned.type_inv, c.affine-turned.ensures.value) at c.arc_place-place.ensures.result_value
 
 pub loop-k-init : goal.loop-k-init
 loop-k-init c =
@@ -42,11 +41,10 @@ loop-k-init c =
 pub returns-then-made-gt0 : goal.returns-then-made-gt0
 unfolding hit_count
 returns-then-made-gt0 c =
-    let h = c in
     let p = (goal.at.returns-then-made-gt0 c).After-arc_place-place in
     let e = entry (turn p).before in
     simp (to_z-of_z e.ranges.radius, to_z-of_z e.ranges.angle, to_z-of_z e.ranges.step) at
-    (under_refused (arc e) (turn p).loop-k.invariant.1 (turn p).loop-k-test.true (place_is p) h.punch_next-made.result h.punch_next-made.ensures c.if-made-gt0.true refl)
+    (under_refused (arc e) (turn p).loop-k.invariant.1 (turn p).loop-k-test.true (place_is p) c.punch_next-made.result c.punch_next-made.ensures c.if-made-gt0.true refl)
 
 pub overflow_add-k : goal.overflow_add-k
 overflow_add-k c =
@@ -55,10 +53,9 @@ overflow_add-k c =
 
 pub loop-k-preserved : goal.loop-k-preserved
 loop-k-preserved c =
-    let h = c in
     let p = (goal.at.loop-k-preserved c).After-arc_place-place in (
-      h.punch_next-made.auto.list ∙ (turn p).loop-k.invariant.0,
-      under_next (arc (entry (turn p).before)) (turn p).loop-k.invariant.1 (turn p).loop-k-test.true (place_is p) h.punch_next-made.result h.punch_next-made.ensures (omega arith),
+      c.punch_next-made.auto.list ∙ (turn p).loop-k.invariant.0,
+      under_next (arc (entry (turn p).before)) (turn p).loop-k.invariant.1 (turn p).loop-k-test.true (place_is p) c.punch_next-made.result c.punch_next-made.ensures (omega arith),
     )
 
 pub returns : goal.returns

@@ -36,9 +36,8 @@ count_is c = c.grid_hits-count.ensures
 -- the cursor goes to the next place
 next-is : (c : After-next-cursor) → c.next-cursor.result ≡ cursor_at c.lane_end-last.result (suc c.loop-k.k)
 next-is c =
-    let l = c in
-    let last = l.lane_end-last.result in
-    c.next-cursor.ensures ∙ ap (λ (m : ℕ). cursor_at last (suc m)) (ap (passed last) l.loop-k.invariant.1 ∙ passed-at last l.loop-k.k)
+    let last = c.lane_end-last.result in
+    c.next-cursor.ensures ∙ ap (λ (m : ℕ). cursor_at last (suc m)) (ap (passed last) c.loop-k.invariant.1 ∙ passed-at last c.loop-k.k)
 
 -- a turn of the loop, seen from its place
 abbrev turn : After-grid_place-place → In-loop-k
@@ -79,19 +78,17 @@ grid_place-place-requires c =
 
 pub returns-then-made-gt0 : goal.returns-then-made-gt0
 returns-then-made-gt0 c =
-    let h = c in
     let p = (goal.at.returns-then-made-gt0 c).After-grid_place-place in
     let l = (turn p).before in
-    under_refused (grid (counted l)) l.loop-k.invariant.2 (turn p).loop-k-test.true (place_is p) h.punch_next-made.result h.punch_next-made.ensures c.if-made-gt0.true (count_is (counted l))
+    under_refused (grid (counted l)) l.loop-k.invariant.2 (turn p).loop-k-test.true (place_is p) c.punch_next-made.result c.punch_next-made.ensures c.if-made-gt0.true (count_is (counted l))
 
 pub loop-k-preserved : goal.loop-k-preserved
 loop-k-preserved c =
-    let h = c in
     let p = (goal.at.loop-k-preserved c).After-grid_place-place in
     let l = (turn p).before in (
-      h.punch_next-made.auto.list ∙ l.loop-k.invariant.0,
+      c.punch_next-made.auto.list ∙ l.loop-k.invariant.0,
       rw add-one (next-is (goal.at.loop-k-preserved c).After-next-cursor),
-      under_next (grid (counted l)) l.loop-k.invariant.2 (turn p).loop-k-test.true (place_is p) h.punch_next-made.result h.punch_next-made.ensures (omega arith),
+      under_next (grid (counted l)) l.loop-k.invariant.2 (turn p).loop-k-test.true (place_is p) c.punch_next-made.result c.punch_next-made.ensures (omega arith),
     )
 
 pub returns : goal.returns

@@ -1,4 +1,4 @@
--- What is judged of the hit tells which way it went, whatever the line and the rest of the progress. Assumes nothing.
+-- What is judged of the hit tells which way it went, whatever the line and the rest of the progress.
 use mathlib.Core.Path.{◌≡◌, sym, ◌∙◌}
 use Prim.Native.Nat.{◌<◌}
 use native.Mathlib.Omega.{arith}
@@ -29,27 +29,24 @@ is_made c = sym c.in-Made.is ∙ c.hit-judged.ensures.0
 
 pub overflow_add-result : goal.overflow_add-result
 overflow_add-result c =
-    let j = c in
     let h = (goal.at.overflow_add-result c).After-hit-judged in
     let a = (entry h).args in
-    omega (arith, places-fit (entry h), hit-fits a.frame (point h) a.tooling.tool a.from.entries j.in-Made.point (is_made j))
+    omega (arith, places-fit (entry h), hit-fits a.frame (point h) a.tooling.tool a.from.entries c.in-Made.point (is_made c))
 
 pub returns-in-Refused : goal.returns-in-Refused
 returns-in-Refused c =
     λ line g.
-    let j = c in
     let h = (goal.at.returns-in-Refused c).After-hit-judged in
     let a = (entry h).args in
-    let number = j.in-Refused.number in
-    let is = sym j.in-Refused.is ∙ h.hit-judged.ensures.0 in
+    let number = c.in-Refused.number in
+    let is = sym c.in-Refused.is ∙ h.hit-judged.ensures.0 in
     rw (status_refused number line (refusal_positive a.frame (point h) a.tooling.tool a.from.entries number is))
     (punch-refused a.frame line (point h) (come g a.tooling a.from.current a.from.entries) number is)
 
 pub returns-in-Made : goal.returns-in-Made
 returns-in-Made c =
     λ line g.
-    let j = c in
     let h = (goal.at.returns-in-Made c).After-hit-judged in
     let a = (entry h).args in
-    punch-made a.frame line (point h) (come g a.tooling a.from.current a.from.entries) j.in-Made.point (is_made j)
-    (rw j.in-Made.is at h.hit-judged.ensures.1)
+    punch-made a.frame line (point h) (come g a.tooling a.from.current a.from.entries) c.in-Made.point (is_made c)
+    (rw c.in-Made.is at h.hit-judged.ensures.1)

@@ -39,9 +39,8 @@ returns-in-Grid c =
 pub punch_shear-requires : goal.punch_shear-requires
 unfolding shear_is_fit
 punch_shear-requires c =
-    let p = c in
-    let pre = p.requires in
-    record { shear_value = sym (ap shear_is_fit p.in-Shear.is) ∙ pre.pattern_value_2; steady = pre.steady }
+    let pre = c.requires in
+    record { shear_value = sym (ap shear_is_fit c.in-Shear.is) ∙ pre.pattern_value_2; steady = pre.steady }
 
 pub returns-in-Shear : goal.returns-in-Shear
 returns-in-Shear c =

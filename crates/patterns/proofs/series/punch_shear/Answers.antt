@@ -75,27 +75,24 @@ place-place-requires c =
 
 pub returns-then-made-gt0 : goal.returns-then-made-gt0
 returns-then-made-gt0 c =
-    let h = c in
     let p = (goal.at.returns-then-made-gt0 c).After-place-place in
     let l = head p in
     let s = entry l in
     let made = l.prepare-cut.ensures in
     under_refused (edge l s.args.shear) (l.loop-k.invariant.1 s.args.shear s.requires.shear_value made) p.loop-k-test.true (place_is p s.args.shear s.requires.shear_value made)
-    h.punch_next-made.result h.punch_next-made.ensures c.if-made-gt0.true (count_is l)
+    c.punch_next-made.result c.punch_next-made.ensures c.if-made-gt0.true (count_is l)
 
 pub overflow_add-k : goal.overflow_add-k
 overflow_add-k c =
-    let p = c in
-    record { fits = omega (arith, p.loop-k-test.true) }
+    record { fits = omega (arith, c.loop-k-test.true) }
 
 pub loop-k-preserved : goal.loop-k-preserved
 loop-k-preserved c =
-    let h = c in
     let p = (goal.at.loop-k-preserved c).After-place-place in
     let l = head p in (
-      h.punch_next-made.auto.list ∙ l.loop-k.invariant.0,
+      c.punch_next-made.auto.list ∙ l.loop-k.invariant.0,
       λ shear fit e.
-          under_next (edge l shear) (l.loop-k.invariant.1 shear fit e) p.loop-k-test.true (place_is p shear fit e) h.punch_next-made.result h.punch_next-made.ensures (omega arith),
+          under_next (edge l shear) (l.loop-k.invariant.1 shear fit e) p.loop-k-test.true (place_is p shear fit e) c.punch_next-made.result c.punch_next-made.ensures (omega arith),
     )
 
 pub returns : goal.returns

@@ -1,4 +1,4 @@
--- The places of a grid fit 33 bits, and one less fits 32. Assumes nothing.
+-- The places of a grid fit 33 bits, and one less fits 32.
 use native.Mathlib.Omega.{arith}
 use Rattle.patterns.proofs.Holes.{places-small}
 use Rattle.patterns.proofs.sizes.grid_hits.Goals as goal

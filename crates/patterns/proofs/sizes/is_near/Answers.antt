@@ -1,4 +1,4 @@
--- The test is of the product itself. Assumes nothing.
+-- The test is of the product itself.
 use mathlib.Core.Path.{◌≡◌}
 use lib.IntN.{pos, ◌*ℤ◌}
 use mir.Syntax.{w64}

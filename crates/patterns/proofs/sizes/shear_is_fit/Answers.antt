@@ -1,4 +1,4 @@
--- Each case is the definition's. Assumes nothing.
+-- Each case is the definition's.
 use mathlib.Core.Path.{sym, ap, ◌∙◌}
 use Rattle.aries.specs.Patterns.{shear_is_fit}
 use Rattle.patterns.proofs.sizes.shear_is_fit.Goals as goal

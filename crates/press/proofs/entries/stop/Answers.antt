@@ -3,8 +3,6 @@ use mathlib.Core.Path.{◌≡◌, sym, ◌∙◌}
 use mathlib.Core.Bool.{true, false}
 use Prim.Native.Nat.{◌<◌}
 use native.Mathlib.Omega.{arith}
-use borrow.Author.Tests.{not-true, not-false}
-use borrow.Author.Rules.{rules}
 use Rattle.aries.specs.declared.entry.Entry.TheVariants as Entry
 use Rattle.press.specs.Entries.{has_place}
 use Rattle.press.proofs.Enter.{place_below, enter-made, enter-refused}

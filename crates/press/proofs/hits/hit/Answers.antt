@@ -4,7 +4,7 @@ use mathlib.Core.Path.{◌≡◌, refl, sym, ap, ◌∙◌}
 use mathlib.Core.Bool.{Bool, true, false, cond}
 use native.Mathlib.Omega.{arith}
 use lib.Dec.{ltb}
-use borrow.Author.Tests.{lt-ltb, le-ltb, not-true, not-false}
+use borrow.Author.Tests.{lt-ltb, le-ltb}
 use Rattle.aries.specs.declared.point.Point.{Point}
 use Rattle.aries.specs.declared.state.Frame.{Frame}
 use Rattle.aries.specs.WidePoints.{point_of}
@@ -16,7 +16,6 @@ use Rattle.aries.proofs.Steady.{near_within}
 use Rattle.aries.proofs.Judging.{near-x, near-y, covers-near}
 use Rattle.press.specs.Hits.{judged_hit}
 use Rattle.press.proofs.Punch.{hit-passes}
-use borrow.Author.Rules.{rules}
 use Rattle.press.proofs.hits.hit.Goals.{After-covers, After-enter, After-out_of_range, After-seen-seen, Else-not-covers, Start}
 use Rattle.press.proofs.hits.hit.Goals as goal
 
@@ -41,7 +40,6 @@ has-tool c = lt-ltb 0 (start c).args.tool (omega arith)
 -- 15 or 16, out of the range
 which : (n : Bool) → Refused (cond n 16 15) ≡ cond n (Refused 16) (Refused 15)
 which true = refl
-
 which false = refl
 
 -- the tests, of where it is seen

@@ -2,7 +2,6 @@
 use mathlib.Core.Path.{sym, ◌∙◌}
 use Rattle.aries.specs.WidePoints.{point_of}
 use Rattle.aries.proofs.WidePoints.{located-at, located_far}
-use borrow.Author.Rules.{rules}
 use Rattle.press.proofs.hits.out_of_range.Goals as goal
 
 pub returns-in-At : goal.returns-in-At

@@ -7,7 +7,6 @@ use Rattle.aries.specs.WidePoints.{point_of}
 use Rattle.press.specs.declared.hits.Judged.TheVariants.{Made}
 use Rattle.press.specs.Hits.{judged_hit}
 use Rattle.press.proofs.Punch.{hit-fits, punch-made, punch-refused}
-use borrow.Author.Rules.{rules}
 use Rattle.press.proofs.hits.punch.Goals.{After-hit-judged, In-Made, Start}
 use Rattle.press.proofs.hits.punch.Goals as goal
 

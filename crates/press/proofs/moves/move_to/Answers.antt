@@ -4,7 +4,6 @@ use mathlib.Core.Path.{◌≡◌, refl, sym, ap, ap₂, ◌∙◌}
 use mathlib.Core.Bool.{Bool, true, false, cond}
 use Prim.Native.Nat.{ℕ}
 use native.Mathlib.Omega.{arith}
-use borrow.Author.Tests.{not-true, not-false}
 use Rattle.aries.specs.declared.point.Point.{Point}
 use Rattle.aries.specs.declared.state.Frame.{Frame}
 use Rattle.aries.specs.declared.state.Progress.{Progress}
@@ -18,7 +17,6 @@ use Rattle.aries.specs.WidePoints.{point_of}
 use Rattle.aries.proofs.Carried.{carried-refused, carried_no_entry}
 use Rattle.aries.proofs.Judging.{covers-near}
 use Rattle.aries.proofs.Steady.{near_within}
-use borrow.Author.Rules.{rules}
 use Rattle.press.proofs.moves.move_to.Goals.{After-covers, After-out_of_range, After-seen-seen, After-with_state, Else-not-covers, Start}
 use Rattle.press.proofs.moves.move_to.Goals as goal
 
@@ -67,7 +65,6 @@ judging n c line rest = do
 which : (n : Bool) (line : ℕ) (rest : Out (Made Progress)) → judging n false line rest ≡ refused (cond n 16 15) line
 unfolding judging
 which true line rest = refl
-
 which false line rest = refl
 
 pub seen-seen-requires : goal.seen-seen-requires

@@ -8,7 +8,6 @@ use Rattle.aries.specs.Moves.{waiting_for, with_state, target, set_pattern_origi
 use Rattle.aries.specs.WidePoints.{located}
 use Rattle.aries.proofs.Carried.{carried-refused, carried_no_entry}
 use Rattle.aries.proofs.WidePoints.{located-at, located_far}
-use borrow.Author.Rules.{rules}
 use Rattle.press.proofs.moves.set_pattern_origin.Goals.{After-located-located, In-At, Start}
 use Rattle.press.proofs.moves.set_pattern_origin.Goals as goal
 

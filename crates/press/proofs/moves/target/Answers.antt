@@ -20,6 +20,7 @@ module _ (c : Start) where
 
   current-y-back : to_z w32 (of_z w32 c.args.state.current.y) ≡ c.args.state.current.y
   current-y-back = search rules
+
 -- the point that is named
 abbrev named : Start → Point
 named c = target c.args.frame c.args.state c.args.axes

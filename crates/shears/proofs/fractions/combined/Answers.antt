@@ -1,4 +1,4 @@
--- Both products and their sum fit 64 bits: each is at most 2^32 × 10^9 in size. Assumes nothing.
+-- Both products and their sum fit 64 bits: each is at most 2^32 × 10^9 in size.
 use lib.Dec.{lit<}
 use lib.IntN.{◌+ℤ◌, ◌*ℤ◌}
 use mir.Syntax.{w64}

@@ -1,4 +1,4 @@
--- Quotient and remainder are no larger than the numerator. Assumes nothing.
+-- Quotient and remainder are no larger than the numerator.
 use mathlib.Core.Path.{◌≡◌}
 use Prim.Native.Nat.{◌<◌, ◌^◌}
 use native.Mathlib.Nat.{lt_of_le_of_lt}

@@ -1,4 +1,4 @@
--- The tests are of the numbers themselves, and a step toward zero fits. Assumes nothing.
+-- The tests are of the numbers themselves, and a step toward zero fits.
 use lib.Dec.{lit<, lit≤}
 use lib.IntN.{pos, negsuc, ◌+ℤ◌, ◌-ℤ◌}
 use mir.Syntax.{w64}
@@ -38,9 +38,8 @@ returns-then-whole-rest-2 c =
 
 pub returns : goal.returns
 returns c =
-    let s = c in
     simp (
-      to_z-of_z s.ranges.whole,
-      simp (to_z-of_z s.ranges.whole, to_z-of_z s.ranges.rest) at c.if-whole-rest.false,
-      simp (to_z-of_z s.ranges.whole, to_z-of_z s.ranges.rest) at c.if-whole-rest-2.false,
+      to_z-of_z c.ranges.whole,
+      simp (to_z-of_z c.ranges.whole, to_z-of_z c.ranges.rest) at c.if-whole-rest.false,
+      simp (to_z-of_z c.ranges.whole, to_z-of_z c.ranges.rest) at c.if-whole-rest-2.false,
     )

@@ -1,4 +1,4 @@
--- The sum is the callee's. Assumes nothing.
+-- The sum is the callee's.
 use mathlib.Core.Path.{◌≡◌, ◌∙◌}
 use mir.Syntax.{w32, w64}
 use mir.Val.{to_z, of_z}

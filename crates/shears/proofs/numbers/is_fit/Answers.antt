@@ -1,4 +1,4 @@
--- Each test is of the numbers themselves, widened. Assumes nothing.
+-- Each test is of the numbers themselves, widened.
 use mathlib.Core.Path.{◌≡◌, ap, ap₂, ◌∙◌}
 use mathlib.Core.Bool.{◌&&◌}
 use Prim.Native.Nat.{ℕ, ◌*◌, ◌<◌, ◌^◌}
@@ -21,14 +21,13 @@ length_back c = search rules
 pub returns : goal.returns
 unfolding is_fit
 returns c =
-    let w = c in
     let s = (goal.at.returns c).Start in
-    let thrice : 3 * w.width-w.result < 2 ^ 63 = omega arith in
-    let word : w.width-w.result < 2 ^ 63 = omega arith in
+    let thrice : 3 * c.width-w.result < 2 ^ 63 = omega arith in
+    let word : c.width-w.result < 2 ^ 63 = omega arith in
     ap₂ ◌&&◌ c.on_one_side.ensures
-    (ap₂ ◌&&◌ (ap (ltb 100) w.width-w.ensures)
+    (ap₂ ◌&&◌ (ap (ltb 100) c.width-w.ensures)
     (ap₂ ◌&&◌
     (ap₂ le_z
-    (to_z_pos w64 thrice ∙ ap (λ (n : ℕ). pos (3 * n)) w.width-w.ensures)
+    (to_z_pos w64 thrice ∙ ap (λ (n : ℕ). pos (3 * n)) c.width-w.ensures)
     (read_back w64 c.product.result c.product.type_inv ∙ (simp (length_back s) at c.product.ensures)))
-    (ap₂ le_z (to_z_pos w64 word ∙ ap pos w.width-w.ensures) (read_back w64 c.cut_length.result c.cut_length.type_inv ∙ c.cut_length.ensures))))
+    (ap₂ le_z (to_z_pos w64 word ∙ ap pos c.width-w.ensures) (read_back w64 c.cut_length.result c.cut_length.type_inv ∙ c.cut_length.ensures))))

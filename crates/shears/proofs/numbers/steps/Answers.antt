@@ -1,4 +1,4 @@
--- The tool's size is above 1 mm, so that a step is above nothing and their number fits. Assumes nothing.
+-- The tool's size is above 1 mm, so that a step is above nothing and their number fits.
 use mathlib.Core.Path.{◌≡◌}
 use Prim.Native.Nat.{◌+◌, ◌-◌, ◌/◌, ◌≤◌, ◌<◌}
 use native.Mathlib.Omega.{arith}

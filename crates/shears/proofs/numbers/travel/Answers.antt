@@ -1,4 +1,4 @@
--- What 18 has found not negative fits without a sign. Assumes nothing.
+-- What 18 has found not negative fits without a sign.
 use mathlib.Core.Path.{◌≡◌, ap, ap₂, ◌∙◌}
 use Prim.Native.Nat.{◌≤◌, ◌<◌, ◌^◌}
 use native.Mathlib.Omega.{arith}

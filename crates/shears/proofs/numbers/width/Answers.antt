@@ -1,4 +1,4 @@
--- The size of P. Assumes nothing.
+-- The size of P.
 use mathlib.Core.Path.{◌≡◌}
 use mir.Syntax.{w32}
 use mir.Val.{to_z, of_z}

@@ -1,4 +1,4 @@
--- Both numbers fit 63 bits, and so does their difference. Assumes nothing.
+-- Both numbers fit 63 bits, and so does their difference.
 use mathlib.Core.Path.{◌≡◌}
 use Prim.Native.Nat.{◌+◌, ◌*◌, ◌<◌, ◌^◌}
 use native.Mathlib.Omega.{arith}

@@ -1,4 +1,4 @@
--- By the test. Assumes nothing.
+-- By the test.
 use borrow.Author.Tests.{ne_eqb}
 use Rattle.shears.proofs.places.divisor.Goals as goal
 

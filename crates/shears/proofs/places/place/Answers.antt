@@ -117,11 +117,10 @@ moved-requires-2 c = let y = c in rw (read_back w64 y.offset-offset_y.result y.o
 
 pub returns : goal.returns
 returns c =
-    let m = c in
     let y = (goal.at.returns c).After-offset-offset_y in
     let x = (goal.at.returns c).After-offset-offset_x in
     let s = entry (goal.at.returns c).After-along-along in
-    let x-moved = read_back w64 m.moved.result m.moved.type_inv ∙ m.moved.ensures ∙ ap₂ ◌+ℤ◌ (x-back s) (read_back w64 x.offset-offset_x.result x.offset-offset_x.type_inv) in
+    let x-moved = read_back w64 c.moved.result c.moved.type_inv ∙ c.moved.ensures ∙ ap₂ ◌+ℤ◌ (x-back s) (read_back w64 x.offset-offset_x.result x.offset-offset_x.type_inv) in
     let y-moved = read_back w64 c.moved-2.result c.moved-2.type_inv ∙ c.moved-2.ensures ∙ ap₂ ◌+ℤ◌ (y-back s) (read_back w64 y.offset-offset_y.result y.offset-offset_y.type_inv) in record {
       result_value = ap₂ point_at (x-moved ∙ ap (λ (z : ℤ). s.args.start.x +ℤ z) (x-is x)) (y-moved ∙ ap (λ (z : ℤ). s.args.start.y +ℤ z) (y-is y));
       moderate = record {

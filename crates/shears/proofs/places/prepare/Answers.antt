@@ -1,4 +1,4 @@
--- Each number is the definition's, and small where the words are of 32 bits. Assumes nothing.
+-- Each number is the definition's, and small where the words are of 32 bits.
 use mathlib.Core.Path.{◌≡◌, ap, ap₂, ◌∙◌}
 use mathlib.Core.Bool.{cond}
 use Prim.Native.Nat.{ℕ, ◌*◌, ◌≤◌}

@@ -1,8 +1,8 @@
 -- The loop's invariant: what is summed up, with the bodies still to come, is the whole.
-use mathlib.Core.Path.{◌≡◌, refl, sym, ap, ◌∙◌}
-use Prim.Native.Nat.{ℕ, ◌+◌, ◌-◌, ◌*◌, ◌<◌, ◌≤◌}
+use mathlib.Core.Path.{◌≡◌}
+use Prim.Native.Nat.{◌+◌, ◌-◌, ◌*◌, ◌≤◌}
 use native.Mathlib.Omega.{arith}
-use lib.ListN.{length, drop, get_or}
+use lib.ListN.{length, drop}
 use borrow.Author.Rules.{rules}
 use Rattle.aries.specs.Macros.{sizes, characters}
 use Rattle.aries.proofs.Storage.{sizes_step, sizes_end}

@@ -5,7 +5,7 @@ use native.Mathlib.Nat.{le_trans}
 use borrow.Author.Rules.{rules}
 use borrow.Author.Tests.{leb-true}
 use lib.Dec.{lit≤}
-use lib.IntN.{ℤ, nat_abs, ◌+ℤ◌, ◌-ℤ◌}
+use lib.IntN.{nat_abs, ◌+ℤ◌, ◌-ℤ◌}
 use mir.Syntax.{w32, w64}
 use mir.Val.{to_z, of_z}
 use mir.Facts.{to_z-of_z}

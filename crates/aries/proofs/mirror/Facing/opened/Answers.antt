@@ -1,6 +1,5 @@
 -- The choice is the definition's. Assumes nothing.
 use mir.Facts.{to_z-of_z}
-use borrow.Author.Rules.{rules}
 use Rattle.aries.proofs.mirror.Facing.opened.Goals as goal
 
 pub returns-then-flips : goal.returns-then-flips

@@ -1,5 +1,4 @@
 -- Setup, store and progress are fresh.
-use borrow.Author.Rules.{rules}
 use Rattle.aries.proofs.setup.Program.fresh.Goals as goal
 
 pub returns : goal.returns

@@ -1,5 +1,4 @@
 -- No mirror is open. Assumes nothing.
-use borrow.Author.Rules.{rules}
 use Rattle.aries.proofs.setup.Setup.frame.Goals as goal
 
 pub returns : goal.returns

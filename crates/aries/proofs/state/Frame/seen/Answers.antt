@@ -21,6 +21,7 @@ module _ (c : Start) where
 
   y-back : to_z w64 (of_z w64 c.args.p.y) ≡ c.args.p.y
   y-back = search rules
+
 -- the function's entry, seen from the first axis
 abbrev entry : After-seen_from → Start
 entry d = d.before.before.before.before.before.before.before.before

@@ -1,7 +1,6 @@
 -- The state is measured, and the count of blocks is one more where the block counts.
 use Prim.Native.Nat.{◌<◌}
 use native.Mathlib.Omega.{arith}
-use borrow.Author.Rules.{rules}
 use Rattle.aries.proofs.state.Progress.begun.Goals as goal
 
 pub overflow_add-self : goal.overflow_add-self

@@ -1,6 +1,5 @@
 -- The state is fresh.
 use mathlib.Core.Path.{ap}
-use borrow.Author.Rules.{rules}
 use Rattle.aries.specs.declared.state.State.{State}
 use Rattle.aries.specs.declared.state.Progress.{Progress}
 use Rattle.aries.proofs.state.Progress.fresh.Goals as goal

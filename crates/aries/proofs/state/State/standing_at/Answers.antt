@@ -1,5 +1,4 @@
 -- Dropped, and moved. Assumes nothing.
-use borrow.Author.Rules.{rules}
 use Rattle.aries.proofs.state.State.standing_at.Goals as goal
 
 pub returns : goal.returns

@@ -1,0 +1,5 @@
+-- X, and then Y. Assumes nothing.
+use Rattle.blocks.proofs.letters.is_given.Goals as goal
+
+pub returns : goal.returns
+returns c = simp (c.has.ensures, c.has-2.ensures)

@@ -1,0 +1,17 @@
+-- The lengths, read back from the words that hold them, and the count with its sign apart. Assumes nothing.
+use mathlib.Core.Path.{◌≡◌}
+use mir.Syntax.{w32}
+use mir.Val.{to_z, of_z}
+use borrow.Author.Rules.{rules}
+use Rattle.blocks.proofs.request.circle_of.Goals as goal
+
+pub count-count-requires : goal.count-count-requires
+count-count-requires c = rw c.word_at-k.ensures c.requires
+
+pub returns : goal.returns
+returns c =
+    let i = c.word_at-i in
+    let i-back : to_z w32 (of_z w32 i.result.value) ≡ i.result.value = search rules in
+    let j = c.word_at-j in
+    let j-back : to_z w32 (of_z w32 j.result.value) ≡ j.result.value = search rules in
+    simp (i-back, j-back) (simp (i.ensures, j.ensures, c.is_negative-clockwise.ensures, c.count-count.ensures, c.word_at-k.ensures))

@@ -1,0 +1,13 @@
+-- The hits of a pattern have one tool, so they are counted in one go.
+use borrow.Author.Rules.{rules}
+use Rattle.aries.specs.Judging.{limits}
+use Rattle.stretches.proofs.Counted.{hits_counted}
+use Rattle.stretches.proofs.direct.carry_pattern.Goals as goal
+
+pub returns : goal.returns
+returns c =
+    let o = c in
+    let s = c in
+    let a = s.args in
+    rw c.count_hits.ensures
+    (hits_counted (limits a.frame.job) a.frame a.line a.progress a.tally.now a.block o.pattern_outcome-outcome.ensures (rw s.requires.block_value))

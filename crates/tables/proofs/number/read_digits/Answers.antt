@@ -1,0 +1,73 @@
+use mathlib.Core.Path.{◌≡◌, refl, sym, ap, ◌∙◌}
+use mathlib.Core.Bool.{true}
+use Prim.Native.Nat.{◌+◌, ◌-◌, ◌^◌, ◌<◌}
+use native.Mathlib.Nat.{sub-zero, add-zero}
+use native.Mathlib.Omega.{arith}
+use lib.Dec.{lit<}
+use lib.ListN.{drop}
+use Rattle.aries.specs.Text.{is_digit}
+use Rattle.tables.specs.Numbers.{held}
+use Rattle.words.proofs.Bytes.{test_inside, digit_low, digit_high}
+use Rattle.words.proofs.Numerals.{digits_full, digits-stop_at, digits_more_at, one_more, below_power}
+use Rattle.tables.proofs.number.read_digits.Goals.{Else-not-is_digit}
+use Rattle.tables.proofs.number.read_digits.Goals as goal
+
+-- a digit stands at the place
+module _ (c : Else-not-is_digit) where
+  digit : is_digit c.byte_at-b.result ≡ true
+  digit = sym c.is_digit.ensures ∙ c.if-not-is_digit.false
+
+  room : c.loop-count.value < 10 ^ 5
+  room = let w = c.loop-count in below_power w.value w.count 5 w.invariant.2 (omega (arith, w.invariant.0))
+
+pub loop-count-init : goal.loop-count-init
+loop-count-init c = (omega arith, omega arith, lit< tt, simp (sub-zero, add-zero))
+
+pub returns-then-not-is_digit : goal.returns-then-not-is_digit
+returns-then-not-is_digit c =
+    let w = c.loop-count in
+    let a = c.args in
+    let other = sym c.is_digit.ensures ∙ c.if-not-is_digit.true in
+    ap held
+    (sym
+    (digits-stop_at a.line.now (a.from + w.count) c.byte_at-b.result w.value w.count c.byte_at-b.ensures
+    (a.most - w.count)
+    other)
+    ∙ w.invariant.3)
+
+pub overflow_mul-value : goal.overflow_mul-value
+overflow_mul-value c = omega (arith, room (goal.at.overflow_mul-value c).Else-not-is_digit)
+
+pub overflow_sub-value : goal.overflow_sub-value
+overflow_sub-value c = digit_low c.byte_at-b.result (digit (goal.at.overflow_sub-value c).Else-not-is_digit)
+
+pub overflow_cast-value : goal.overflow_cast-value
+overflow_cast-value c = omega (arith, digit_high c.byte_at-b.result (digit (goal.at.overflow_cast-value c).Else-not-is_digit))
+
+pub overflow_add-value : goal.overflow_add-value
+overflow_add-value c =
+    let d = (goal.at.overflow_add-value c).Else-not-is_digit in
+    omega (arith, room d, digit_high c.byte_at-b.result (digit d))
+
+pub loop-count-preserved : goal.loop-count-preserved
+loop-count-preserved c =
+    let d = digit (goal.at.loop-count-preserved c).Else-not-is_digit in
+    let w = c.loop-count in
+    let a = c.args in
+    let t = a.line.now in
+    let i = a.from + w.count in
+    let b = c.byte_at-b.result in
+    let l = c.byte_at-b.ensures in
+    let next : a.from + (w.count + 1) ≡ i + 1 = omega arith in (
+      omega arith,
+      omega (arith, test_inside is_digit t i refl (sym (ap is_digit l) ∙ d)),
+      one_more w.value (b - 48) w.count w.invariant.2 (omega (arith, digit_high b d)),
+      rw next (sym (digits_more_at t i b w.value w.count l a.most d (omega arith)) ∙ w.invariant.3),
+    )
+
+pub returns : goal.returns
+returns c =
+    let w = c.loop-count in
+    let a = c.args in
+    let rest = drop (a.from + w.count) a.line.now in
+    ap held (sym (digits_full (a.most - w.count) w.value w.count rest (omega arith)) ∙ w.invariant.3)

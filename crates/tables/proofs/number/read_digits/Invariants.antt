@@ -1,0 +1,17 @@
+-- The invariant: the value has as many digits as are counted, and the digits from here on, after those, are those from
+-- the start.
+use mathlib.Core.Path.{◌≡◌}
+use Prim.Native.Nat.{◌+◌, ◌-◌, ◌^◌, ◌≤◌, ◌<◌}
+use lib.ListN.{length, drop}
+use Rattle.aries.specs.Words.{digits}
+use Rattle.tables.proofs.number.read_digits.Given as goal
+
+abbrev pub invariant-loop-count : goal.invariant-loop-count
+invariant-loop-count l =
+    (l.count ≤ l.most)
+    × (l.count ≤ length l.line - l.from)
+    × (l.value < 10 ^ l.count)
+    × (digits (l.most - l.count) l.value l.count (drop (l.from + l.count) l.line) ≡ digits l.most 0 0 (drop l.from l.line))
+
+abbrev pub decreases-loop-count : goal.decreases-loop-count
+decreases-loop-count l = l.most - l.count
