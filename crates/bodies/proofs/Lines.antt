@@ -9,7 +9,6 @@ use borrow.Author.Tests.{ltb-true, ltb-false}
 use lib.Dec.{ltb}
 use lib.ListN.{length, get_or, drop}
 use Rattle.aries.specs.declared.block.Block.{Block}
-use Rattle.aries.specs.declared.block.Block.TheVariants as Block
 use Rattle.aries.specs.declared.state.Frame.{Frame}
 use Rattle.aries.specs.declared.state.Progress.{Progress}
 use Rattle.aries.specs.Outcome.{Out, done, refused, ◌>>=◌}
@@ -22,7 +21,6 @@ use Rattle.aries.proofs.Runs.{no_entry_then}
 use Rattle.text.specs.Lines.{line_length}
 use Rattle.text.proofs.Lines.{line-ends, lines_at, lines-past}
 use Rattle.stretches.specs.declared.Sequel.{Sequel}
-use Rattle.stretches.specs.declared.Sequel.TheVariants as Sequel
 use Rattle.stretches.specs.Stretches.{Stretched, step_of, block_step, begun_step, line_step, onward, stretch}
 use Rattle.stretches.proofs.Sequels.{first-line}
 use Rattle.bodies.specs.Rest.{rest}

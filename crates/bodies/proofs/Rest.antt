@@ -20,7 +20,6 @@ use Rattle.aries.specs.Text.{lines}
 use Rattle.aries.proofs.Given.{left_near}
 use Rattle.aries.proofs.Runs.{Leads, leads-start, leads_as, leads_on, passed_as}
 use Rattle.stretches.specs.declared.Sequel.{Sequel}
-use Rattle.stretches.specs.declared.Sequel.TheVariants as Sequel
 use Rattle.stretches.specs.declared.Stretch.{Stretch}
 use Rattle.stretches.specs.Stretches.{Stretched, stretch, is_end, LinesFit, Stretches}
 use Rattle.stretches.proofs.Sequels.{SequelBehind, stretch-behind, stretch-passes}

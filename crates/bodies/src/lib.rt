@@ -1,5 +1,6 @@
 // Bodies: the blocks of a body, and the calls among them.
 #![tactic(auto)]
+
 ghost use Rattle.std.specs.Prelude.{◌≡◌, cond, ltb, drop};
 ghost use Rattle.aries.specs.Macros.{bodies_of, call, carry_call, run_lines};
 ghost use Rattle.aries.specs.Runs.{lent_both, Carried};

@@ -1,5 +1,6 @@
 // G75 and G76: copies of a part, one for each place of the layout.
 #![tactic(auto)]
+
 ghost use Rattle.std.specs.Prelude.{◌≡◌, true};
 ghost use Rattle.aries.specs.Judging.{near};
 ghost use Rattle.aries.specs.Layouts.{part_of, copy, copy_part};

@@ -6,7 +6,6 @@ use Prim.Native.Nat.{ℕ, suc, ◌+◌, ◌≤◌}
 use native.Mathlib.Omega.{arith}
 use lib.ListN.{length, drop}
 use Rattle.aries.specs.declared.block.Block.{Block}
-use Rattle.aries.specs.declared.block.Block.TheVariants as Block
 use Rattle.aries.specs.declared.macros.Macros.{Macros}
 use Rattle.aries.specs.declared.setup.Program.{Program}
 use Rattle.aries.specs.declared.setup.Setup.{Setup}
@@ -26,7 +25,6 @@ use Rattle.aries.specs.Setup.{ordinary_frame}
 use Rattle.aries.proofs.Given.{left_near}
 use Rattle.aries.proofs.Runs.{ran-refused, ran_then, ran-map, no_entry_then, refused_out}
 use Rattle.stretches.specs.declared.Sequel.{Sequel}
-use Rattle.stretches.specs.declared.Sequel.TheVariants as Sequel
 use Rattle.stretches.specs.Stretches.{Stretched, step_of, block_step, begun_step, line_step, onward, stretch}
 use Rattle.stretches.proofs.Sequels.{Behind, first-line}
 use Rattle.stretches.proofs.Nearness.{SequelNear, stretch-near}

@@ -3,7 +3,6 @@ use mathlib.Core.Path.{◌≡◌, refl, sym, ap, subst, ◌∙◌}
 use mathlib.Core.List.{List}
 use Prim.Native.Nat.{ℕ, ◌+◌, ◌≤◌}
 use native.Mathlib.Omega.{arith}
-use lib.IntN.{ℤ}
 use lib.ListN.{length}
 use Rattle.aries.specs.declared.block.Block.{Block}
 use Rattle.aries.specs.declared.job.Job.{Job}
@@ -26,7 +25,6 @@ use Rattle.aries.specs.Setup.{fresh_setup}
 use Rattle.aries.specs.Text.{lines}
 use Rattle.aries.proofs.Runs.{ran-refused, ran_ended, Leads, leads-start, leads_as, leads_on, leads_end}
 use Rattle.turns.specs.declared.turn.Next.{Next}
-use Rattle.turns.specs.declared.turn.Next.TheVariants as Next
 use Rattle.turns.specs.declared.turn.Turn.{Turn}
 use Rattle.turns.specs.Turns.{program, at, carried, lines_from, left_of, Comes, Near, NextNear}
 use Rattle.program.specs.Lines.{Beyond, Turns}

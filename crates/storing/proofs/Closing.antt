@@ -8,12 +8,9 @@ use types.Run.{OneOf, miss}
 use Rattle.aries.specs.contracts.block.Block as block
 use Rattle.aries.specs.contracts.block.Outside as outside
 use Rattle.aries.specs.declared.block.Block.{Block}
-use Rattle.aries.specs.declared.block.Block.TheVariants as Block
 use Rattle.aries.specs.declared.block.Decoded.{Decoded}
-use Rattle.aries.specs.declared.block.Decoded.TheVariants as Decoded
 use Rattle.aries.specs.declared.block.Instruction.{Instruction}
 use Rattle.aries.specs.declared.block.Outside.{Outside}
-use Rattle.aries.specs.declared.block.Outside.TheVariants as Outside
 use Rattle.aries.specs.declared.reader.Reader.{Reader}
 use Rattle.aries.specs.Outcome.{Checked, passes, fails}
 use Rattle.aries.specs.Blocks.{decode}

@@ -1,5 +1,6 @@
 // U lines: where the body ends, its first run, and storing it.
 #![tactic(auto)]
+
 ghost use Rattle.std.specs.Prelude.{◌≡◌, true, ◌≤◌, ◌<◌, length, drop};
 ghost use Rattle.aries.specs.declared.state.Status.TheVariants.{Passed};
 ghost use Rattle.aries.specs.Bodies.{is_own_close, body_size, runs_first, first_run, with_stored, open_body};

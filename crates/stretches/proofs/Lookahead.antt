@@ -2,7 +2,7 @@
 use mathlib.Core.Path.{◌≡◌, refl, sym, ap, ◌∙◌}
 use mathlib.Core.Bool.{Bool, true, false}
 use mathlib.Core.List.{List}
-use Prim.Native.Nat.{ℕ, ◌+◌, ◌-◌, ◌<◌, ◌≤◌}
+use Prim.Native.Nat.{ℕ, ◌+◌, ◌<◌, ◌≤◌}
 use native.Mathlib.Omega.{arith}
 use borrow.Author.Tests.{ltb-true, ltb-false, lt-ltb, le-ltb}
 use lib.Dec.{ltb}
@@ -14,7 +14,6 @@ use Rattle.text.specs.Lines.{blanks}
 use Rattle.text.proofs.Lines.{next-stop}
 use Rattle.decode.specs.Decoding.{decoded_at}
 use Rattle.stretches.specs.declared.Ahead.{Ahead}
-use Rattle.stretches.specs.declared.Ahead.TheVariants as Ahead
 use Rattle.stretches.specs.Lookahead.{ahead}
 
 -- a block that is ahead of a place between two lines

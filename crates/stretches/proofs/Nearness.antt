@@ -5,7 +5,6 @@ use Prim.Native.Nat.{ℕ, suc, ◌+◌}
 use lib.ListN.{length}
 use Rattle.aries.specs.declared.block.Call.{Call}
 use Rattle.aries.specs.declared.block.Block.{Block}
-use Rattle.aries.specs.declared.block.Block.TheVariants as Block
 use Rattle.aries.specs.declared.state.Frame.{Frame}
 use Rattle.aries.specs.declared.state.Progress.{Progress}
 use Rattle.aries.specs.Outcome.{Out, done, refused}
@@ -16,7 +15,6 @@ use Rattle.aries.specs.Steady.{GivenNear, CallNear}
 use Rattle.aries.proofs.Given.{LeavesNear, near-adding, carry_direct-near, begin-near}
 use Rattle.decode.proofs.NearCalls.{calls_near}
 use Rattle.stretches.specs.declared.Sequel.{Sequel}
-use Rattle.stretches.specs.declared.Sequel.TheVariants as Sequel
 use Rattle.stretches.specs.Stretches.{Stretched, Step, goes, ends, step_of, block_step, begun_step, line_step, onward, stretch}
 
 -- a call that comes after a stretch

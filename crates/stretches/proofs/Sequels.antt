@@ -10,7 +10,6 @@ use lib.Dec.{ltb}
 use lib.ListN.{length, get_or, drop, length-drop}
 use lib.Seq.{length-take-le, get_or-drop}
 use Rattle.aries.specs.declared.block.Block.{Block}
-use Rattle.aries.specs.declared.block.Block.TheVariants as Block
 use Rattle.aries.specs.declared.state.Frame.{Frame}
 use Rattle.aries.specs.declared.state.Progress.{Progress}
 use Rattle.aries.specs.declared.state.Status.{Status}
@@ -24,7 +23,6 @@ use Rattle.aries.specs.Text.{lines, line_feed}
 use Rattle.text.specs.Lines.{line_length, line_at, line_end}
 use Rattle.text.proofs.Lines.{line-short, line-inside, feed_after, lines_at, lines-past}
 use Rattle.stretches.specs.declared.Sequel.{Sequel}
-use Rattle.stretches.specs.declared.Sequel.TheVariants as Sequel
 use Rattle.stretches.specs.Stretches.{Stretched, Step, goes, ends, step_of, block_step, begun_step, line_step, onward, stretch, is_end}
 
 -- a block's line that ends at a place of a text, seen from another place and its line

@@ -2,7 +2,7 @@
 use mathlib.Core.Path.{◌≡◌, refl, sym, ap, ap₂, ◌∙◌, fun_ext}
 use mathlib.Core.Bool.{Bool, true, false}
 use mathlib.Core.List.{List, [], ◌∷◌, ◌++◌}
-use Prim.Native.Nat.{ℕ, zero, suc, ◌+◌, ◌-◌, ◌<◌, ◌≤◌}
+use Prim.Native.Nat.{ℕ, zero, suc, ◌+◌, ◌<◌, ◌≤◌}
 use native.Mathlib.Omega.{arith}
 use borrow.Author.Tests.{ltb-true, ltb-false}
 use lib.Dec.{ltb}
@@ -23,7 +23,6 @@ use Rattle.aries.proofs.Runs.{ran-refused, ran_no_entry, passed-done, Leads, lea
 use Rattle.text.specs.Lines.{line_length, blanks, line_at, line_end}
 use Rattle.text.proofs.Lines.{line-short, line-goes_on, line-ends, feed_after, lines_at, lines-past, lines-blanks}
 use Rattle.stretches.specs.declared.Sequel.{Sequel}
-use Rattle.stretches.specs.declared.Sequel.TheVariants as Sequel
 use Rattle.stretches.specs.declared.Stretch.{Stretch}
 use Rattle.stretches.specs.Stretches.{Stretched, refused_at, ending_with, step_of, begun_step, line_step, onward, stretch, Stretches}
 

@@ -14,14 +14,13 @@ use Rattle.aries.specs.contracts.block.Block.{the_type}
 use Rattle.aries.specs.declared.block.Outside.TheVariants as Outside
 use Rattle.aries.specs.declared.block.Call.TheVariants.{Plain}
 use Rattle.aries.specs.declared.block.Block.{Block}
-use Rattle.aries.specs.declared.block.Block.TheVariants as Block
 use Rattle.aries.specs.declared.block.Decoded.TheVariants as Decoded
 use Rattle.aries.specs.declared.block.Direct.{Direct}
 use Rattle.aries.specs.declared.block.Instruction.{Instruction}
 use Rattle.aries.specs.declared.job.Job.{Job}
 use Rattle.aries.specs.declared.state.Frame.{Frame}
 use Rattle.aries.specs.declared.state.Progress.{Progress}
-use Rattle.aries.specs.Outcome.{Out, refused}
+use Rattle.aries.specs.Outcome.{Out}
 use Rattle.aries.specs.Judging.{limits}
 use Rattle.aries.specs.Letters.{letter_v}
 use Rattle.aries.specs.Reader.{reader_of}

@@ -107,10 +107,21 @@ module _ (setting : Setting) (list after : List ℤ) (tally : List ℕ) (text : 
 
 -- ---- The ways out of an expansion
 
--- the length that cleaning answers tells that no byte is stray
+-- what cleaning answers tells whether a byte is stray
+pub stray_found : (found : Option ℕ) (dense : List ℕ) (line : ℕ) → Stray line ≡ cleaned found dense → found ≡ some line
+stray_found (some l) dense line e = let k : line ≡ l = cc in rw k
+stray_found none dense line e = let z : ◌≡◌ {A = ℕ} 0 1 = cc in absurd (omega arith)
+
 pub dense_found : (found : Option ℕ) (dense : List ℕ) (n : ℕ) → Dense n ≡ cleaned found dense → (found ≡ none) × (n ≡ length dense)
 dense_found (some l) dense n e = let z : ◌≡◌ {A = ℕ} 0 1 = cc in absurd (omega arith)
 dense_found none dense n e = let k : n ≡ length dense = cc in (refl, k)
+
+module _ (setting : Setting) (text : List ℕ) (numbers : ℕ) where
+  pub after_stray : {line : ℕ} → stray_line 1 text ≡ some line → after_cleaning setting text numbers ≡ refused 2 line
+  after_stray e = simp e
+
+  pub after_dense : stray_line 1 text ≡ none → after_cleaning setting text numbers ≡ perform (lending setting numbers) (without_spaces text) (length (lines text))
+  after_dense e = simp e
 
 module _ (setting : ℤ) (text : List ℕ) (numbers : ℕ) where
   pub expand_empty : length text ≡ 0 → expand setting text numbers ≡ refused 1 0

@@ -2,7 +2,6 @@
 use mathlib.Core.Path.{◌≡◌, sym}
 use Prim.Native.Nat.{◌+◌, ◌-◌}
 use native.Mathlib.Omega.{arith}
-use borrow.Author.Rules.{rules}
 use lib.ListN.{drop, length-drop}
 use Rattle.text.specs.Lines.{blanks}
 use Rattle.text.proofs.Lines.{blanks-short}

@@ -1,14 +1,12 @@
 use mathlib.Core.Path.{◌≡◌, refl, sym, ap, subst, ◌∙◌}
-use mathlib.Core.Bool.{false, not, ◌&&◌}
+use mathlib.Core.Bool.{not}
 use mathlib.Core.List.{List}
 use Prim.Native.Nat.{ℕ, ◌+◌, ◌-◌, ◌<◌, ◌≤◌}
 use native.Mathlib.Omega.{arith}
 use borrow.Author.Rules.{rules}
-use lib.Dec.{eqb, leb}
-use lib.IntN.{ℤ}
+use lib.Dec.{eqb}
 use lib.ListN.{length, get_or, drop}
 use Rattle.aries.specs.declared.block.Decoded.{Decoded}
-use Rattle.aries.specs.declared.block.Decoded.TheVariants as Decoded
 use Rattle.aries.specs.declared.block.Direct.{Direct}
 use Rattle.aries.specs.declared.block.Instruction.{Instruction}
 use Rattle.aries.specs.declared.reader.Reader.{Reader}
@@ -25,7 +23,6 @@ use Rattle.aries.specs.Macros.{carry_direct, begun}
 use Rattle.aries.specs.Runs.{Lent, lent_both, Ran, entries_made}
 use Rattle.aries.specs.Text.{lines}
 use Rattle.text.proofs.Lines.{line-goes_on, line-inside}
-use Rattle.decode.specs.Decoding.{decoded_at}
 use Rattle.decode.proofs.Decoding.{decoded-instruction}
 use Rattle.stretches.specs.Lookahead.{ahead}
 use Rattle.stretches.specs.Stretches.{Stretched, refused_at, step_of, onward, stretch}
@@ -35,7 +32,6 @@ use Rattle.aries.proofs.Runs.{refused_out}
 use Rattle.stretches.proofs.Turns.{turn_spent, turn-refused, turn_direct, turn-sequel, counted-room}
 use Rattle.aries.specs.declared.block.Measure.{Measure}
 use Rattle.stretches.specs.declared.Ahead.{Ahead}
-use Rattle.stretches.specs.declared.Ahead.TheVariants as Ahead
 use Rattle.stretches.proofs.run_stretch.Goals.{then-is_pattern+in_default-status, else-is_pattern+in_default-status-2}
 use Rattle.stretches.proofs.run_stretch.Goals as goal
 

@@ -1,5 +1,4 @@
 -- Each arm is that of the definition.
-use borrow.Author.Rules.{rules}
 use Rattle.stretches.proofs.Sequel.at.Goals as goal
 
 pub returns-in-Call : goal.returns-in-Call

@@ -1,5 +1,4 @@
 -- The hits of a pattern have one tool, so they are counted in one go.
-use borrow.Author.Rules.{rules}
 use Rattle.aries.specs.Judging.{limits}
 use Rattle.stretches.proofs.Counted.{hits_counted}
 use Rattle.stretches.proofs.direct.carry_pattern.Goals as goal

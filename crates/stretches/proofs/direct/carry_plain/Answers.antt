@@ -1,6 +1,5 @@
 -- With the memories of before put back it is the same, and a hit is counted.
 use mathlib.Core.Path.{sym, ◌∙◌}
-use borrow.Author.Rules.{rules}
 use Rattle.aries.specs.Judging.{limits}
 use Rattle.stretches.proofs.Plain.{plain_kept}
 use Rattle.stretches.proofs.Counted.{hits_counted, nothing_counted}

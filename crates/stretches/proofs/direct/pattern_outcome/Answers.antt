@@ -1,5 +1,5 @@
 -- Each arm is that of the definition; there is no other.
-use mathlib.Core.Path.{◌≡◌, sym, ◌∙◌}
+use mathlib.Core.Path.{sym, ◌∙◌}
 use mathlib.Core.Bool.{true≢false}
 use borrow.Author.Rules.{rules}
 use Rattle.aries.specs.Macros.{carry_direct}

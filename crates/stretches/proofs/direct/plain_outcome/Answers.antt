@@ -1,11 +1,11 @@
 -- Each arm is that of the definition, the last one for the block that is left.
-use mathlib.Core.Path.{◌≡◌, refl, ap, ◌∙◌}
+use mathlib.Core.Path.{refl, ap, ◌∙◌}
 use borrow.Author.Rules.{rules}
 use Rattle.aries.specs.declared.block.Direct.TheVariants.{Lone, Nibble, Idle}
 use Rattle.aries.specs.declared.state.Progress.{Progress}
 use Rattle.aries.specs.declared.state.Status.TheVariants.{Passed}
 use Rattle.aries.specs.Macros.{carry_direct}
-use Rattle.aries.specs.Moves.{with_state, dropping, in_mode}
+use Rattle.aries.specs.Moves.{with_state}
 use Rattle.aries.proofs.Carried.{carried_no_entry}
 use Rattle.stretches.proofs.Plain.{idle_left}
 use Rattle.stretches.proofs.direct.plain_outcome.Goals as goal

@@ -1,0 +1,11 @@
+-- Each case is the definition's.
+use mathlib.Core.Path.{refl}
+use Rattle.bodies.proofs.calling.outcome_by.Goals as goal
+
+pub returns-in-Plain : goal.returns-in-Plain
+returns-in-Plain c = rw c.in-Plain.is refl
+
+pub returns-in-Mirrored : goal.returns-in-Mirrored
+returns-in-Mirrored c =
+    let s = c in
+    rw (s.in-Mirrored.is, c.with_state.ensures, s.standing_at.ensures) refl
