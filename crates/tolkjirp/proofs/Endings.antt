@@ -9,7 +9,6 @@ use borrow.Author.Tests.{le-leb, lt-leb}
 use lib.IntN.{ℤ, pos}
 use lib.ListN.{length, take, replicate}
 use Rattle.aries.specs.declared.answer.Answer.{Answer}
-use Rattle.aries.specs.declared.answer.Answer.TheVariants as Answer
 use Rattle.aries.specs.declared.job.Job.{Job}
 use Rattle.aries.specs.declared.reader.Setting.{Setting}
 use Rattle.aries.specs.declared.setup.Program.{Program}
