@@ -1,6 +1,7 @@
 """Makes hitlist fail in each way that it can at the bench, and looks at what it says.
 
-    python3 crates/hitlist/failures.py [PROGRAM]     the program is target/bin/hitlist unless another is named
+    python3 crates/hitlist/failures.py [PROGRAM]     the program is crates/hitlist/out/hitlist, as
+                                                     rt run builds it there, unless another is named
 """
 import fcntl
 import os
@@ -12,7 +13,7 @@ import time
 import tty
 
 ROOT = os.path.dirname(os.path.dirname(os.path.dirname(os.path.abspath(__file__))))
-PROGRAM = sys.argv[1] if len(sys.argv) > 1 else os.path.join(ROOT, 'target/bin/hitlist')
+PROGRAM = sys.argv[1] if len(sys.argv) > 1 else os.path.join(ROOT, 'crates/hitlist/out/hitlist')
 HEAD = b'G92X600.Y600.\nX1.Y1.T1\n'
 PLATE = HEAD + b'G50\n'
 LISTING = b'ENTRIES 1\n1 100 100 1 P\n1 1 1 1\n'
@@ -49,11 +50,15 @@ def unread(reason, name='standard input'):
 
 
 def writes():
-    """Standard output is full, closed, or does not wait."""
+    """Standard output is full, closed, read by nobody, or does not wait."""
     with open('/dev/full', 'wb') as full:
         look('a full device', run(text=PLATE, stdout=full)[1], cut(b'No space left on device'))
         look('a full device, a refusal', run(text=b'X', stdout=full)[1], cut(b'No space left on device'))
     look('closed output', run(text=PLATE, stdout=None, preexec_fn=lambda: os.close(1))[1], cut(b'Bad file descriptor'))
+    reader, writer = os.pipe()
+    os.close(reader)
+    look('output that nobody reads', run(text=PLATE, stdout=writer)[1], cut(b'Broken pipe'))
+    os.close(writer)
     reader, writer = os.pipe()
     fcntl.fcntl(writer, fcntl.F_SETFL, os.O_NONBLOCK)
     fcntl.fcntl(writer, fcntl.F_SETPIPE_SZ, 4096)
@@ -93,6 +98,7 @@ def names():
         look('a lost file', run(lost), unread(b'No such file or directory', lost))
         look('a directory by name', run(folder), unread(b'Is a directory', folder))
         look('a name too long', run('x' * 5000), unread(b'File name too long', 'the name of the plate'))
+        look('a name not in UTF-8', run(b'\xff'), unread(b'invalid filename', 'the name of the plate'))
         look('an empty name', run(''), unread(b'No such file or directory', ''))
         for words in ['--help'], ['-'], [plate, plate]:
             out, err = run(*words)
