@@ -74,7 +74,7 @@ pub fn find_in<'a>(
     number: u8,
 ) -> Found
     requires { length line.now ≡ 90 }
-    ensures { result ≡ found_in (record { start = start.entry.now; end = end.now; line = line.now }) number }
+    ensures { result ≡ found_in (record { start = start.now; end = end.now; line = line.now }) number }
 {
     let n = number as usize;
     if SLOTS <= n {

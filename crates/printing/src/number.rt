@@ -2,7 +2,7 @@
 ghost use Rattle.std.specs.Prelude.{◌≡◌, [], ◌∷◌, ◌++◌, ◌+◌, ◌<◌, length};
 ghost use Rattle.printing.specs.Buffers.{Room, Put};
 ghost use Rattle.printing.specs.Decimals.{decimal, signed_decimal};
-ghost use Rattle.printing.specs.Decimals.{digit as Decimals·digit};
+ghost use Rattle.printing.specs.Decimals.{digit as decimal_digit};
 
 use crate::buffer::put_byte;
 
@@ -11,7 +11,7 @@ const MINUS: u8 = 45;
 // The byte of a digit.
 fn digit(d: u64) -> u8
     requires { d < 10 }
-    ensures { result ≡ Decimals·digit d }
+    ensures { result ≡ decimal_digit d }
 {
     48 + d as u8
 }

@@ -1,4 +1,4 @@
--- By what 15 makes of all places. Assumes nothing.
+-- By what 15 makes of all places.
 use mathlib.Core.Path.{refl, sym, ap, ◌∙◌}
 use Rattle.aries.specs.declared.state.Progress.{Progress}
 use Rattle.aries.specs.declared.state.Status.TheVariants.{Passed}

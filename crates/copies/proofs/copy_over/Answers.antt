@@ -9,13 +9,10 @@ use Rattle.copies.proofs.copy_over.Goals as goal
 
 pub returns-in-Nothing : goal.returns-in-Nothing
 returns-in-Nothing c =
-    let o = c in
-    let a = o.args in
-    rw (part_blank o.reader.result (limits a.frame.job) (bodies_of a.text.now a.macros) a.first a.body.now (sym o.look_ahead-start.ensures ∙ c.in-Nothing.is))
+    let a = c.args in
+    rw (part_blank c.reader.result (limits a.frame.job) (bodies_of a.text.now a.macros) a.first a.body.now (sym c.look_ahead-start.ensures ∙ c.in-Nothing.is))
     (c.copy_blank.ensures (lent_both a.list.now a.tally.now))
 
 pub copy_body-requires : goal.copy_body-requires
 copy_body-requires c =
-    let l = c in
-    let s = c in
-    record { lines_fit = (omega (arith, s.well_formed), rw l.reader.ensures at l.look_ahead-start.ensures); steady = s.requires }
+    record { lines_fit = (omega (arith, c.well_formed), rw c.reader.ensures at c.look_ahead-start.ensures); steady = c.requires }

@@ -1,4 +1,4 @@
--- One law of `copy_part` for each way out. Assumes nothing.
+-- One law of `copy_part` for each way out.
 use mathlib.Core.Path.{sym, ap, ap₂, ◌∙◌, subst}
 use Prim.Native.Nat.{ℕ, ◌-◌}
 use native.Mathlib.Omega.{arith}

@@ -20,14 +20,12 @@ pub returns-then-too_many-ne0 : goal.returns-then-too_many-ne0
 unfolding checked
 returns-then-too_many-ne0 c =
     let index = c.first_too_many-too_many.ensures in
-    let e = c in
-    let row = e.first_missing-missing.ensures in
-    ap TooMany index ∙ sym (verdict_many _ _ (sym row ∙ e.if-missing-ne0.false) (λ z. c.if-too_many-ne0.true (index ∙ z)))
+    let row = c.first_missing-missing.ensures in
+    ap TooMany index ∙ sym (verdict_many _ _ (sym row ∙ c.if-missing-ne0.false) (λ z. c.if-too_many-ne0.true (index ∙ z)))
 
 pub returns : goal.returns
 unfolding checked
 returns c =
     let index = c.first_too_many-too_many.ensures in
-    let e = c in
-    let row = e.first_missing-missing.ensures in
-    sym (verdict_none _ _ (sym row ∙ e.if-missing-ne0.false) (sym index ∙ c.if-too_many-ne0.false))
+    let row = c.first_missing-missing.ensures in
+    sym (verdict_none _ _ (sym row ∙ c.if-missing-ne0.false) (sym index ∙ c.if-too_many-ne0.false))

@@ -21,9 +21,8 @@ returns-then-not-is_hit c =
 pub returns : goal.returns
 returns c =
     let place = c.place_at-hole.ensures in
-    let e = c in
-    let hit = e.is_hit in
-    let a = e.args in
+    let hit = c.is_hit in
+    let a = c.args in
     let ls = list_holes a.list.now in
     let ts = table_holes a.table.now in
     let mode = mode_at a.list.now a.i in
@@ -33,4 +32,4 @@ returns c =
     ∙ ap (is_over ls ts)
     (sym
     (hit-some mode (place_at a.list.now a.i)
-    (not-true (is_stop mode) (sym hit.ensures ∙ e.if-not-is_hit.false))))
+    (not-true (is_stop mode) (sym hit.ensures ∙ c.if-not-is_hit.false))))

@@ -1,4 +1,4 @@
--- By computation. Assumes nothing.
+-- By computation.
 use mathlib.Core.Path.{refl}
 use Rattle.aries.specs.Text.{bytes}
 use Rattle.printing.specs.Decimals.{digits, decimal, signed_decimal}

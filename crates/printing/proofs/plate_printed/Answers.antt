@@ -1,4 +1,4 @@
--- By computation. Assumes nothing.
+-- By computation.
 use mathlib.Core.Path.{refl}
 use Rattle.aries.specs.Text.{bytes}
 use Rattle.aries.specs.Program.{expand, list_of, tally_for}

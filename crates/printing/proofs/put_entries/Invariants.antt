@@ -1,4 +1,4 @@
--- The invariant: the lines of the entries that are left are left to be put, and have room. Assumes nothing.
+-- The invariant: the lines of the entries that are left are left to be put, and have room.
 use mathlib.Core.Path.{◌≡◌}
 use Prim.Native.Nat.{suc, ◌*◌, ◌≤◌}
 use lib.ListN.{length}

@@ -1,4 +1,4 @@
--- The tools, the entries in front of them and the head in front of both, or the line of the refusal. Assumes nothing.
+-- The tools, the entries in front of them and the head in front of both, or the line of the refusal.
 use native.Mathlib.Omega.{arith}
 use Rattle.printing.specs.Listing.{listing}
 use Rattle.printing.proofs.Buffers.{put_then, put-ends}

@@ -1,4 +1,4 @@
--- The two ends are widened and tested one after the other. Assumes nothing.
+-- The two ends are widened and tested one after the other.
 use mathlib.Core.Path.{◌≡◌}
 use mathlib.Core.Bool.{true, false}
 use lib.Signed.{le_z}

@@ -1,4 +1,4 @@
--- Two numbers are the same where their words are. Assumes nothing.
+-- Two numbers are the same where their words are.
 use mir.Syntax.{w32}
 use Rattle.signed.proofs.Tests.{eq_z-words}
 use Rattle.signed.proofs.equal.Goals as goal

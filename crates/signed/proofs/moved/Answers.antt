@@ -1,4 +1,4 @@
--- A position of 32 bits and an offset that is bounded fit 64. Assumes nothing.
+-- A position of 32 bits and an offset that is bounded fit 64.
 use lib.Dec.{lit<}
 use lib.IntN.{◌+ℤ◌}
 use mir.Syntax.{w64}

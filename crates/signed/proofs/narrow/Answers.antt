@@ -1,4 +1,4 @@
--- A number within the bound fits 32 bits. Assumes nothing.
+-- A number within the bound fits 32 bits.
 use lib.Dec.{lit<}
 use mir.Syntax.{w32}
 use mir.Val.{SFits}

@@ -1,4 +1,4 @@
--- A count of 16 bits lies in the lower half of 32. Assumes nothing.
+-- A count of 16 bits lies in the lower half of 32.
 use Prim.Native.Nat.{◌<◌, ◌^◌}
 use native.Mathlib.Omega.{arith}
 use mir.Syntax.{w32}

@@ -1,4 +1,4 @@
--- The product of a count and a number of 32 bits fits 64. Assumes nothing.
+-- The product of a count and a number of 32 bits fits 64.
 use native.Mathlib.Omega.{arith}
 use Prim.Native.Nat.{◌<◌, ◌^◌}
 use lib.IntN.{pos, ◌*ℤ◌}

@@ -1,4 +1,4 @@
--- Each step from two numbers of 32 bits and one that is bounded fits 64. Assumes nothing.
+-- Each step from two numbers of 32 bits and one that is bounded fits 64.
 use Prim.Native.Nat.{◌≤◌}
 use lib.Dec.{lit<}
 use lib.IntN.{nat_abs, ◌+ℤ◌, ◌-ℤ◌}

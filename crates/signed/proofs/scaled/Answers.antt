@@ -1,4 +1,4 @@
--- The pitches' product is below 2^48, so that it and its sum with a number of 32 bits fit 64. Assumes nothing.
+-- The pitches' product is below 2^48, so that it and its sum with a number of 32 bits fit 64.
 use native.Mathlib.Nat.{mul-le-mul}
 use native.Mathlib.Omega.{arith}
 use Prim.Native.Nat.{◌*◌, ◌≤◌, ◌<◌, ◌^◌}

@@ -1,4 +1,4 @@
--- A negative number is turned round at 64 bits, where its opposite fits; any other is its own size. Assumes nothing.
+-- A negative number is turned round at 64 bits, where its opposite fits; any other is its own size.
 use mathlib.Core.Path.{◌≡◌}
 use mathlib.Core.Bool.{true, false}
 use lib.Dec.{lit<}

@@ -1,4 +1,4 @@
--- The size is within n where the number lies between minus n and n. Assumes nothing.
+-- The size is within n where the number lies between minus n and n.
 use mathlib.Core.Path.{◌≡◌, sym, ap, ◌∙◌}
 use mathlib.Core.Bool.{Bool, true, false, ◌&&◌}
 use native.Mathlib.Omega.{arith}

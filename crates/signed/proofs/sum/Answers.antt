@@ -1,4 +1,4 @@
--- The sum of two numbers of 32 bits fits 64. Assumes nothing.
+-- The sum of two numbers of 32 bits fits 64.
 use lib.IntN.{◌+ℤ◌}
 use mir.Syntax.{w64}
 use mir.Val.{SFits}

@@ -1,4 +1,4 @@
--- A number that fits 32 bits fits 64. Assumes nothing.
+-- A number that fits 32 bits fits 64.
 use Rattle.signed.proofs.Integers.{read_wide, widened}
 use Rattle.signed.proofs.widen.Goals as goal
 

@@ -1,4 +1,4 @@
--- The size lies in the lower half of 32 bits, and so does its opposite. Assumes nothing.
+-- The size lies in the lower half of 32 bits, and so does its opposite.
 use native.Mathlib.Omega.{arith}
 use Prim.Native.Nat.{◌<◌, ◌^◌}
 use lib.Dec.{lit<}

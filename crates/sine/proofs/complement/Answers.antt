@@ -1,4 +1,4 @@
--- Up to 90 degrees the complement is the difference, past them a turn more. Assumes nothing.
+-- Up to 90 degrees the complement is the difference, past them a turn more.
 use borrow.Author.Rules.{rules}
 use mathlib.Core.Path.{sym}
 use Rattle.sine.proofs.Angles.{complement_low, complement_high}

@@ -1,4 +1,4 @@
--- Each entry is the rule's. Assumes nothing.
+-- Each entry is the rule's.
 use Rattle.sine.proofs.Tables.{degree-sine}
 use Rattle.sine.proofs.degree_sines.Goals as goal
 

@@ -1,4 +1,4 @@
--- The direction of the angle, by tables of its own. Assumes nothing.
+-- The direction of the angle, by tables of its own.
 use mir.Syntax.{w64}
 use mir.Facts.{to_z-of_z}
 use Rattle.signed.proofs.Integers.{read_back}

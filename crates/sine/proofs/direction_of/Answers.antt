@@ -1,4 +1,4 @@
--- Cosine and sine as in the functions of these names, from one reduced angle. Assumes nothing.
+-- Cosine and sine as in the functions of these names, from one reduced angle.
 use mathlib.Core.Path.{◌≡◌, ap, ap₂, ◌∙◌}
 use Prim.Native.Nat.{ℕ}
 use native.Mathlib.Omega.{arith}

@@ -1,4 +1,4 @@
--- Each entry is the rule's. Assumes nothing.
+-- Each entry is the rule's.
 use Rattle.sine.proofs.Tables.{hundredth_sine_lem}
 use Rattle.sine.proofs.hundredth_sines.Goals as goal
 

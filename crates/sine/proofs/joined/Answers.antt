@@ -1,4 +1,4 @@
--- Each product is at most 10^18, so that their sum fits and its quotient is at most 2 × 10^9. Assumes nothing.
+-- Each product is at most 10^18, so that their sum fits and its quotient is at most 2 × 10^9.
 use Prim.Native.Nat.{◌*◌, ◌≤◌}
 use native.Mathlib.Nat.{mul-le-mul}
 use native.Mathlib.Omega.{arith}

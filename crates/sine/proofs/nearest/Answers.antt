@@ -1,4 +1,4 @@
--- Half of the divisor added before the division, where the definition doubles both. Assumes nothing.
+-- Half of the divisor added before the division, where the definition doubles both.
 use native.Mathlib.Omega.{arith}
 use Rattle.sine.proofs.nearest.Goals as goal
 

@@ -1,4 +1,4 @@
--- The four entries read are those that the angle's sine is joined of. Assumes nothing.
+-- The four entries read are those that the angle's sine is joined of.
 use borrow.Author.Rules.{rules}
 use mathlib.Core.Path.{◌∙◌}
 use Prim.Native.Nat.{◌/◌, ◌%◌, ◌-◌}

@@ -1,4 +1,4 @@
--- The size is rounded, and turned round again below zero; the quotients are small. Assumes nothing.
+-- The size is rounded, and turned round again below zero; the quotients are small.
 use mathlib.Core.Path.{◌≡◌, sym}
 use mathlib.Core.Bool.{true, false}
 use Prim.Native.Nat.{◌≤◌, ◌<◌, ◌^◌}

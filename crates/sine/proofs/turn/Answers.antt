@@ -1,4 +1,4 @@
--- A remainder below zero lacks a full turn, any other is the reduced angle. Assumes nothing.
+-- A remainder below zero lacks a full turn, any other is the reduced angle.
 use mathlib.Core.Path.{◌≡◌}
 use native.Mathlib.Nat.{lt_of_le_of_lt}
 use native.Mathlib.Omega.{arith}

@@ -1,4 +1,4 @@
--- The reflected angle lies in the first quadrant, and its sine takes the sign of the half turn. Assumes nothing.
+-- The reflected angle lies in the first quadrant, and its sine takes the sign of the half turn.
 use mathlib.Core.Path.{◌≡◌, ap, ◌∙◌}
 use native.Mathlib.Omega.{arith}
 use lib.Dec.{ltb}

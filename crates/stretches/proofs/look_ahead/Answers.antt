@@ -19,14 +19,12 @@ overflow_sub-result c = omega (arith, c.next_block-at.ensures)
 
 pub overflow_add-result : goal.overflow_add-result
 overflow_add-result c =
-    let b = c in
-    let a = b.args in
-    omega (arith, b.requires, b.next_block-at.ensures, blanks-short (drop a.from a.text.now), length-drop a.from a.text.now)
+    let a = c.args in
+    omega (arith, c.requires, c.next_block-at.ensures, blanks-short (drop a.from a.text.now), length-drop a.from a.text.now)
 
 pub returns : goal.returns
 returns c =
-    let b = c in
-    let a = b.args in
-    let some = ahead-some a.reader a.text.now a.from a.first (omega (arith, c.if-text-at.false, b.next_block-at.ensures)) in
+    let a = c.args in
+    let some = ahead-some a.reader a.text.now a.from a.first (omega (arith, c.if-text-at.false, c.next_block-at.ensures)) in
     let n : a.from + blanks (drop a.from a.text.now) - a.from ≡ blanks (drop a.from a.text.now) = omega arith in
-    rw (c.decode-decoded.ensures, b.next_block-at.ensures, n) (sym some)
+    rw (c.decode-decoded.ensures, c.next_block-at.ensures, n) (sym some)

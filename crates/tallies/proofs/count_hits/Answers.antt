@@ -1,4 +1,4 @@
--- The three figures of a tool that is counted. Assumes nothing.
+-- The three figures of a tool that is counted.
 use mathlib.Core.Path.{sym, ap, ◌∙◌}
 use Prim.Native.Nat.{ℕ, ◌+◌, ◌-◌, ◌*◌}
 use native.Mathlib.Omega.{arith}

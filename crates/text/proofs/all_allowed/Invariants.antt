@@ -1,4 +1,4 @@
--- The invariant: whether all bytes so far and all from here on are allowed is whether all are. Assumes nothing.
+-- The invariant: whether all bytes so far and all from here on are allowed is whether all are.
 use mathlib.Core.Path.{◌≡◌}
 use mathlib.Core.Bool.{◌&&◌}
 use Prim.Native.Nat.{◌-◌}

@@ -1,5 +1,5 @@
 -- Where fewer than eight bytes are left there are fewer empty lines; else the eight tests say how many there are.
--- Assumes nothing.
+--
 use mathlib.Core.Path.{◌≡◌, sym}
 use mathlib.Core.Bool.{false}
 use mathlib.Core.List.{List}

@@ -1,4 +1,4 @@
--- Where all bytes are allowed they are copied; else one is stray. Assumes nothing.
+-- Where all bytes are allowed they are copied; else one is stray.
 use mathlib.Core.Path.{sym, ◌∙◌}
 use Rattle.text.proofs.Cleaning.{dense_cleaned, stray_cleaned}
 use Rattle.text.proofs.clean.Goals as goal

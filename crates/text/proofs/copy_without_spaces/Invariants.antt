@@ -1,5 +1,5 @@
 -- The invariant: what was copied, followed by the rest without its spaces, is the text without its spaces.
--- Assumes nothing.
+--
 use mathlib.Core.Path.{◌≡◌}
 use mathlib.Core.List.{◌++◌}
 use Prim.Native.Nat.{◌-◌, ◌≤◌}

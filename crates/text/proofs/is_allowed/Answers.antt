@@ -1,4 +1,4 @@
--- The tests are the definition's, joined in another order. Assumes nothing.
+-- The tests are the definition's, joined in another order.
 use mathlib.Core.Bool.{or_assoc, or-false}
 use Rattle.text.proofs.is_allowed.Goals as goal
 

@@ -1,4 +1,4 @@
--- The invariant: the line has the same end from here as from the start. Assumes nothing.
+-- The invariant: the line has the same end from here as from the start.
 use mathlib.Core.Path.{◌≡◌}
 use Prim.Native.Nat.{◌+◌, ◌-◌}
 use lib.ListN.{length, drop}

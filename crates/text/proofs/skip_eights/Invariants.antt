@@ -1,4 +1,4 @@
--- The invariant: the next block lies where it lay from the start. Assumes nothing.
+-- The invariant: the next block lies where it lay from the start.
 use mathlib.Core.Path.{◌≡◌}
 use Prim.Native.Nat.{◌+◌, ◌-◌}
 use lib.ListN.{length, drop}

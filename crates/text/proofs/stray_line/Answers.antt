@@ -1,6 +1,5 @@
 use mathlib.Core.Path.{◌≡◌, sym, ap, ◌∙◌}
 use mathlib.Core.Bool.{true}
-use mathlib.Core.Logic.{⊎_elim}
 use Prim.Native.Nat.{◌<◌}
 use native.Mathlib.Omega.{arith}
 use borrow.Author.Rules.{rules}
@@ -8,6 +7,7 @@ use lib.ListN.{length, get_or}
 use Rattle.aries.specs.Text.{is_allowed}
 use Rattle.text.specs.Cleaning.{or_zero}
 use Rattle.text.proofs.Cleaning.{stray_here, stray_feed, stray_other, stray_past}
+use Rattle.text.proofs.stray_line.Goals.{then-b-eq-LINE_FEED, else-b-eq-LINE_FEED}
 use Rattle.text.proofs.stray_line.Goals as goal
 
 pub returns-then-not-is_allowed : goal.returns-then-not-is_allowed
@@ -29,11 +29,11 @@ loop-i-preserved c =
     let allowed : is_allowed (get_or t w.i 0) ≡ true =
     sym test.ensures ∙ c.if-not-is_allowed.false in (
       omega arith,
-      ⊎_elim (λ v. omega arith) (λ v. omega arith) c.if-b-eq-LINE_FEED.branch-raw,
-      ⊎_elim
-          (λ v. rw v.line-is (sym (stray_feed t w.line w.i h allowed v.if-b-eq-LINE_FEED.true) ∙ w.invariant.2))
-          (λ v. rw v.line-is (sym (stray_other t w.line w.i h allowed v.if-b-eq-LINE_FEED.false) ∙ w.invariant.2))
-          c.if-b-eq-LINE_FEED.branch-raw,
+      elim c.if-b-eq-LINE_FEED.branch [ then-b-eq-LINE_FEED v ↦ omega arith | else-b-eq-LINE_FEED v ↦ omega arith ],
+      elim c.if-b-eq-LINE_FEED.branch [
+        | then-b-eq-LINE_FEED v ↦ rw v.line-is (sym (stray_feed t w.line w.i h allowed v.if-b-eq-LINE_FEED.true) ∙ w.invariant.2)
+        | else-b-eq-LINE_FEED v ↦ rw v.line-is (sym (stray_other t w.line w.i h allowed v.if-b-eq-LINE_FEED.false) ∙ w.invariant.2)
+      ],
     )
 
 pub returns : goal.returns

@@ -1,4 +1,4 @@
--- The invariant: from here on the text has the same first stray byte. Assumes nothing.
+-- The invariant: from here on the text has the same first stray byte.
 use mathlib.Core.Path.{◌≡◌}
 use Prim.Native.Nat.{◌+◌, ◌-◌, ◌≤◌}
 use lib.ListN.{length, drop}

@@ -1,4 +1,4 @@
--- Past the end `get_or` is its last argument. Assumes nothing.
+-- Past the end `get_or` is its last argument.
 use mathlib.Core.Path.{sym}
 use lib.ListN.{get_or-eq_default}
 use Rattle.words.proofs.byte_at.Goals as goal

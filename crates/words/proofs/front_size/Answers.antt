@@ -1,4 +1,4 @@
--- By the test of the sign. Assumes nothing.
+-- By the test of the sign.
 use mathlib.Core.Path.{sym, ◌∙◌}
 use Rattle.words.proofs.front_size.Goals as goal
 

@@ -1,4 +1,4 @@
--- By the count of the decimals. Assumes nothing.
+-- By the count of the decimals.
 use native.Mathlib.Nat.{mul-one}
 use borrow.Author.Tests.{eq-eqb, ne_eqb}
 use borrow.Author.Rules.{rules}

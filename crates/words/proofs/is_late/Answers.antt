@@ -1,4 +1,4 @@
--- By the letter. Assumes nothing.
+-- By the letter.
 use borrow.Author.Tests.{eq-eqb, ne_eqb}
 use Rattle.aries.specs.Letters.{letter_a}
 use Rattle.words.proofs.is_late.Goals as goal

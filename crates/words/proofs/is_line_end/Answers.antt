@@ -1,4 +1,4 @@
--- By the byte at the place, and past the end the line is empty. Assumes nothing.
+-- By the byte at the place, and past the end the line is empty.
 use mathlib.Core.Path.{sym}
 use Rattle.text.proofs.Lines.{line-past}
 use Rattle.words.proofs.Line.{line-empty}

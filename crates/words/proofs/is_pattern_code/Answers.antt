@@ -1,4 +1,4 @@
--- The definition is computed at each code, and at none of them it is false. Assumes nothing.
+-- The definition is computed at each code, and at none of them it is false.
 use native.Mathlib.Omega.{arith}
 use borrow.Author.Tests.{ne_eqb}
 use Rattle.words.proofs.is_pattern_code.Goals as goal

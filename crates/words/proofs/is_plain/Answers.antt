@@ -1,4 +1,4 @@
--- The forms with a sign or a point are 2, 3 and 4. Assumes nothing.
+-- The forms with a sign or a point are 2, 3 and 4.
 use lib.IntN.{pos}
 use Rattle.words.proofs.Keeping.{form_plain}
 use Rattle.words.proofs.is_plain.Goals as goal

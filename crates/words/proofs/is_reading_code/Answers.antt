@@ -1,4 +1,4 @@
--- The list of the definition ends with no more codes. Assumes nothing.
+-- The list of the definition ends with no more codes.
 use mathlib.Core.Bool.{or-false}
 use Rattle.words.proofs.is_reading_code.Goals as goal
 

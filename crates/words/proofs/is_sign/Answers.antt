@@ -1,4 +1,4 @@
--- The list of the definition ends with no more signs. Assumes nothing.
+-- The list of the definition ends with no more signs.
 use mathlib.Core.Bool.{or-false}
 use Rattle.words.proofs.is_sign.Goals as goal
 

@@ -1,4 +1,4 @@
--- By whether there is a number; it is read back from its word, since it fits. Assumes nothing.
+-- By whether there is a number; it is read back from its word, since it fits.
 use mathlib.Core.Path.{◌≡◌}
 use mir.Syntax.{w32}
 use mir.Val.{to_z, of_z}
@@ -14,14 +14,12 @@ returns-then-number-eq0 c =
 
 pub returns : goal.returns
 returns c =
-    let v = c in
-    let s = c in
-    let n = s.args.number in
-    let back : to_z w32 (of_z w32 v.with_sign-value.result) ≡ v.with_sign-value.result = search rules in
+    let n = c.args.number in
+    let back : to_z w32 (of_z w32 c.with_sign-value.result) ≡ c.with_sign-value.result = search rules in
     simp back
     (simp (
-      le-leb 1 n.size (omega (arith, s.if-number-eq0.false)),
-      v.with_sign-value.ensures,
-      v.form_of-form.ensures,
-      s.is_sign.ensures,
+      le-leb 1 n.size (omega (arith, c.if-number-eq0.false)),
+      c.with_sign-value.ensures,
+      c.form_of-form.ensures,
+      c.is_sign.ensures,
     ))

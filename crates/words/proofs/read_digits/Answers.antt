@@ -28,13 +28,12 @@ loop-count-init c = (omega arith, omega arith, lit< tt, simp (sub-zero, add-zero
 
 pub returns-then-not-is_digit : goal.returns-then-not-is_digit
 returns-then-not-is_digit c =
-    let b = c in
-    let w = b.loop-count in
-    let a = b.args in
+    let w = c.loop-count in
+    let a = c.args in
     let other = sym c.is_digit.ensures ∙ c.if-not-is_digit.true in
     ap held
     (sym
-    (digits-stop_at a.text.now (a.from + w.count) b.byte_at-b.result w.value w.count b.byte_at-b.ensures
+    (digits-stop_at a.text.now (a.from + w.count) c.byte_at-b.result w.value w.count c.byte_at-b.ensures
     (a.most - w.count)
     other)
     ∙ w.invariant.3)

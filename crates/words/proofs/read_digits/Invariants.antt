@@ -1,5 +1,5 @@
 -- The invariant: the value has as many digits as are counted, and the digits from here on, after those, are those from
--- the start. Assumes nothing.
+-- the start.
 use mathlib.Core.Path.{◌≡◌}
 use Prim.Native.Nat.{◌+◌, ◌-◌, ◌^◌, ◌≤◌, ◌<◌}
 use lib.ListN.{length, drop}

@@ -1,4 +1,4 @@
--- The parts of a number are read in their order; each exit is a case of `number_of`. Assumes nothing.
+-- The parts of a number are read in their order; each exit is a case of `number_of`.
 use mathlib.Core.Path.{◌≡◌, refl, sym, ap, ◌∙◌}
 use mathlib.Core.Bool.{true}
 use mathlib.Core.List.{List}

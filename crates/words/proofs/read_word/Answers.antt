@@ -1,4 +1,4 @@
--- The letter, the sign and the number are read in their order. Assumes nothing.
+-- The letter, the sign and the number are read in their order.
 use mathlib.Core.Path.{◌≡◌, refl, sym, ap, ◌∙◌}
 use mathlib.Core.Bool.{true, cond}
 use mathlib.Core.List.{List}

@@ -118,11 +118,10 @@ ended formed end s =
 pub returns-then-word-eq0 : goal.returns-then-word-eq0
 unfolding summary_of
 returns-then-word-eq0 c =
-    let r = c in
-    let w = r.loop-word in
-    let a = r.args in
+    let w = c.loop-word in
+    let a = c.args in
     let t = a.text.now in
-    let none_here = answer_none w.at (word (drop w.at t)) r.read_word-word.result r.read_word-word.ensures c.if-word-eq0.true in
+    let none_here = answer_none w.at (word (drop w.at t)) c.read_word-word.result c.read_word-word.ensures c.if-word-eq0.true in
     gathers t a.from w.at w.invariant.before w.invariant.goes none_here _ w.forms w.numbers
     (ap (ended c.is_line_end.result w.at) w.invariant.told ∙ rw c.is_line_end.ensures)
     w.invariant.letters w.invariant.numbers-all
@@ -162,7 +161,6 @@ loop-word-smaller c = less (goal.at.loop-word-smaller c).Else-word-eq0
 
 pub loop-word-preserved : goal.loop-word-preserved
 loop-word-preserved c =
-    let q = c in
     let r = (goal.at.loop-word-preserved c).Else-word-eq0 in
     let w = r.loop-word in
     let i = index r in
@@ -179,8 +177,8 @@ loop-word-preserved c =
     k.told
     (ltb 0 (get_or w.forms i 0))
     stands
-    q.if-letter-eq71.false)
+    c.if-letter-eq71.false)
     (rw (back r)
     (letters-set w.forms w.numbers i (reading r).form n (rw k.forms-all (placed r)) (rw k.numbers-all (placed r))
     ∙ ap (λ (l : Letters). set l i (word_in (reading r).form n)) k.letters
-    ∙ sym (by_letter-set k.before (read_as (place r) (reading r)) q.if-letter-eq71.false)))
+    ∙ sym (by_letter-set k.before (read_as (place r) (reading r)) c.if-letter-eq71.false)))

@@ -1,5 +1,5 @@
 -- The invariant: what is kept is what is said of the words before here, which are those of the line up to here; and no
--- more are counted than bytes stand before here. Assumes nothing.
+-- more are counted than bytes stand before here.
 use mathlib.Core.Path.{◌≡◌}
 use mathlib.Core.Bool.{true}
 use mathlib.Core.List.{List}

@@ -1,4 +1,4 @@
--- By whether it is G90 or G91. Assumes nothing.
+-- By whether it is G90 or G91.
 use mathlib.Core.Path.{◌≡◌, sym, ◌∙◌}
 use lib.IntN.{nat_abs}
 use mir.Syntax.{w32}
@@ -21,7 +21,6 @@ returns-then-is_reading_code c =
 
 pub returns : goal.returns
 returns c =
-    let q = c in
     let s = (goal.at.returns c).After-size-code in
-    let reads = rw (code_is s) at (sym q.is_reading_code.ensures ∙ c.if-is_reading_code.false) in
+    let reads = rw (code_is s) at (sym c.is_reading_code.ensures ∙ c.if-is_reading_code.false) in
     simp (reads, code_is s, c.is_plain.ensures)

@@ -1,4 +1,4 @@
--- By whether it is N. Assumes nothing.
+-- By whether it is N.
 use borrow.Author.Tests.{eq-eqb, ne_eqb}
 use Rattle.aries.specs.Letters.{letter_n}
 use Rattle.words.proofs.with_letter.Goals as goal
@@ -8,5 +8,4 @@ returns-then-letter-eq78 c = simp (c.with_number.ensures, eq-eqb c.args.letter l
 
 pub returns : goal.returns
 returns c =
-    let l = c in
-    simp (l.is_late-late.ensures, ne_eqb l.args.letter letter_n l.if-letter-eq78.false)
+    simp (c.is_late-late.ensures, ne_eqb c.args.letter letter_n c.if-letter-eq78.false)

@@ -1,5 +1,5 @@
 -- A letter has its place in both lists (`Keeping`); its number is read back from a word that holds it.
--- Assumes nothing.
+--
 use mathlib.Core.Path.{◌≡◌, sym, ◌∙◌}
 use Prim.Native.Nat.{◌-◌, ◌<◌}
 use lib.IntN.{pos}

@@ -1,4 +1,4 @@
--- Each mode has its number. Assumes nothing.
+-- Each mode has its number.
 
 use Rattle.aries.proofs.entry.mode_number.Goals as goal
 

@@ -1,4 +1,4 @@
--- Each stop has its number. Assumes nothing.
+-- Each stop has its number.
 
 use Rattle.aries.proofs.entry.stop_number.Goals as goal
 

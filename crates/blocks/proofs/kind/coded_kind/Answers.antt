@@ -1,4 +1,4 @@
--- The table of codes computes at each code; past all of them it is unknown. Assumes nothing.
+-- The table of codes computes at each code; past all of them it is unknown.
 use native.Mathlib.Omega.{arith}
 use borrow.Author.Tests.{ne_eqb}
 use Rattle.blocks.proofs.kind.coded_kind.Goals as goal

@@ -1,4 +1,4 @@
--- By the code, or else by the letters. Assumes nothing.
+-- By the code, or else by the letters.
 use Rattle.aries.specs.Forms.{kind_of}
 use Rattle.blocks.proofs.kind.kind_of.Goals as goal
 

@@ -1,5 +1,5 @@
 -- The letters are tried in the order of the definition: each exit has those before it absent. The places past the tests
--- of M, B, U, V and W are m, b, u, v and w. Assumes nothing.
+-- of M, B, U, V and W are m, b, u, v and w.
 use Rattle.blocks.proofs.kind.plain_kind.Goals as goal
 
 pub returns-then-has : goal.returns-then-has

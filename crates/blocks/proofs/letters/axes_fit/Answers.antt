@@ -1,4 +1,4 @@
--- The axes are counted, and T where it may stand. Assumes nothing.
+-- The axes are counted, and T where it may stand.
 use mathlib.Core.Path.{◌≡◌, ◌∙◌}
 use mathlib.Core.Bool.{cond}
 use native.Mathlib.Nat.{add_assoc, add-zero}

@@ -1,4 +1,4 @@
--- Kinds that go alike share an arm (`Arms`). Assumes nothing.
+-- Kinds that go alike share an arm (`Arms`).
 use mathlib.Core.Path.{refl}
 use mathlib.Core.Bool.{not-not}
 use mathlib.Core.List.{[], ◌∷◌}

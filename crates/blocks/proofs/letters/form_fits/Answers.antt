@@ -1,4 +1,4 @@
--- Each arm counts the letters of its form; kinds that go alike share an arm (`Arms`). Assumes nothing.
+-- Each arm counts the letters of its form; kinds that go alike share an arm (`Arms`).
 use mathlib.Core.Path.{refl}
 use mathlib.Core.Bool.{Bool}
 use mathlib.Core.List.{[], ◌∷◌}

@@ -1,4 +1,4 @@
--- X, and then Y. Assumes nothing.
+-- X, and then Y.
 use Rattle.blocks.proofs.letters.is_given.Goals as goal
 
 pub returns : goal.returns

@@ -1,4 +1,4 @@
--- The four tests in a row. Assumes nothing.
+-- The four tests in a row.
 use mathlib.Core.Bool.{not}
 use Rattle.blocks.specs.Counting.{is_counted}
 use Rattle.blocks.proofs.Tests.{after_one}

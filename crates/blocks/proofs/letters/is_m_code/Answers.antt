@@ -1,4 +1,4 @@
--- The codes are tested one after the other (`Tests`). Assumes nothing.
+-- The codes are tested one after the other (`Tests`).
 use mathlib.Core.Path.{ap}
 use mathlib.Core.Bool.{◌&&◌}
 use mathlib.Core.List.{[], ◌∷◌}

@@ -1,4 +1,4 @@
--- A letter counts one where it stands. Assumes nothing.
+-- A letter counts one where it stands.
 use mathlib.Core.Path.{sym, ◌∙◌}
 use native.Mathlib.Omega.{arith}
 use Rattle.blocks.proofs.letters.one.Goals as goal

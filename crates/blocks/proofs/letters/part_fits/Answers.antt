@@ -1,4 +1,4 @@
--- W and Q are counted, and X and Y where they may stand. Assumes nothing.
+-- W and Q are counted, and X and Y where they may stand.
 use mathlib.Core.Path.{◌≡◌, ◌∙◌}
 use mathlib.Core.Bool.{cond}
 use native.Mathlib.Nat.{add_assoc, add-zero}

@@ -1,4 +1,4 @@
--- The word's own mark. Assumes nothing.
+-- The word's own mark.
 use mathlib.Core.Path.{ap}
 use Rattle.aries.specs.declared.word.Word.{Word}
 use Rattle.blocks.proofs.lookup.has.Goals as goal

@@ -1,4 +1,4 @@
--- The sign of a field, read back from the word that holds it. Assumes nothing.
+-- The sign of a field, read back from the word that holds it.
 use mathlib.Core.Path.{◌≡◌, ap, ◌∙◌}
 use lib.IntN.{ℤ, pos}
 use lib.Signed.{lt_z}

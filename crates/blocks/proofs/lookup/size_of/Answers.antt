@@ -1,4 +1,4 @@
--- The size of a field, read back from the word that holds it. Assumes nothing.
+-- The size of a field, read back from the word that holds it.
 use mathlib.Core.Path.{◌≡◌, ap, ◌∙◌}
 use lib.IntN.{nat_abs}
 use mir.Syntax.{w32}

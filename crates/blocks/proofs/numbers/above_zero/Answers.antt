@@ -1,4 +1,4 @@
--- Absent, or above zero. Assumes nothing.
+-- Absent, or above zero.
 use mathlib.Core.Path.{ap}
 use mathlib.Core.Bool.{not, ◌||◌}
 use Rattle.blocks.proofs.numbers.above_zero.Goals as goal

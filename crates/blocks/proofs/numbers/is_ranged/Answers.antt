@@ -1,4 +1,4 @@
--- The kind's own letters and the common ones. Assumes nothing.
+-- The kind's own letters and the common ones.
 use Rattle.aries.specs.Numbers.{is_ranged}
 use Rattle.blocks.proofs.numbers.is_ranged.Goals as goal
 

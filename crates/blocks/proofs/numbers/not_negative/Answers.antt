@@ -1,4 +1,4 @@
--- Absent, or not negative. Assumes nothing.
+-- Absent, or not negative.
 use mathlib.Core.Path.{ap}
 use mathlib.Core.Bool.{Bool, not, ◌||◌}
 use Rattle.blocks.proofs.numbers.not_negative.Goals as goal

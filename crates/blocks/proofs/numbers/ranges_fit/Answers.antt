@@ -1,4 +1,4 @@
--- Each arm tests the letters of its list; kinds with one list share an arm (`Arms`). Assumes nothing.
+-- Each arm tests the letters of its list; kinds with one list share an arm (`Arms`).
 use mathlib.Core.Path.{refl}
 use mathlib.Core.Bool.{and-true}
 use mathlib.Core.List.{[], ◌∷◌}

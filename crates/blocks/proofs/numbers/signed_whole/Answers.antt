@@ -1,4 +1,4 @@
--- Absent, or without a point and between the bounds. Assumes nothing.
+-- Absent, or without a point and between the bounds.
 use Rattle.blocks.proofs.numbers.signed_whole.Goals as goal
 
 pub returns : goal.returns

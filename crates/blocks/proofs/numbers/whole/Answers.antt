@@ -1,4 +1,4 @@
--- Absent, or plain and between the bounds. Assumes nothing.
+-- Absent, or plain and between the bounds.
 use Rattle.blocks.proofs.numbers.whole.Goals as goal
 
 pub returns-then-v : goal.returns-then-v

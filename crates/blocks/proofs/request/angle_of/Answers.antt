@@ -1,4 +1,4 @@
--- A reduced angle is below 36,000. Assumes nothing.
+-- A reduced angle is below 36,000.
 use mathlib.Core.Path.{◌≡◌, ap, ◌∙◌}
 use native.Mathlib.Omega.{arith}
 use mir.Syntax.{w32, w64}

@@ -1,4 +1,4 @@
--- The lengths, read back from the words that hold them, and the count. Assumes nothing.
+-- The lengths, read back from the words that hold them, and the count.
 use mathlib.Core.Path.{◌≡◌}
 use mir.Syntax.{w32}
 use mir.Val.{to_z, of_z}

@@ -1,4 +1,4 @@
--- Axis by axis. Assumes nothing.
+-- Axis by axis.
 use Rattle.blocks.proofs.request.axes_of.Goals as goal
 
 pub returns : goal.returns

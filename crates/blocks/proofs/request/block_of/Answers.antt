@@ -1,4 +1,4 @@
--- Each number that is narrowed has passed its range (`Ranges` of aries), and each arm is that of the definition. Assumes nothing.
+-- Each number that is narrowed has passed its range (`Ranges` of aries), and each arm is that of the definition.
 use mathlib.Core.Path.{◌≡◌, refl}
 use mathlib.Core.Bool.{true}
 use Prim.Native.Nat.{ℕ, ◌≤◌}

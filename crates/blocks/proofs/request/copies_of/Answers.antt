@@ -1,4 +1,4 @@
--- Both numbers are within their bounds. Assumes nothing.
+-- Both numbers are within their bounds.
 use Rattle.blocks.proofs.request.copies_of.Goals as goal
 
 pub small-part-requires : goal.small-part-requires

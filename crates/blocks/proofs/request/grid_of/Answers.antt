@@ -1,4 +1,4 @@
--- The pitches, read back from the words that hold them, and the steps. Assumes nothing.
+-- The pitches, read back from the words that hold them, and the steps.
 use mathlib.Core.Path.{◌≡◌}
 use mir.Syntax.{w32}
 use mir.Val.{to_z, of_z}

@@ -1,4 +1,4 @@
--- Numbers of six digits can be added (`Sized`). Assumes nothing.
+-- Numbers of six digits can be added (`Sized`).
 use native.Mathlib.Omega.{arith}
 use Rattle.aries.specs.Letters.{letter_d, letter_i, letter_j}
 use Rattle.lengths.proofs.Sized.{size_small}

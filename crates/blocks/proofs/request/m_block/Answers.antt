@@ -1,4 +1,4 @@
--- 0, 1, 12, 13, or another number. Assumes nothing.
+-- 0, 1, 12, 13, or another number.
 use borrow.Author.Tests.{ne_eqb}
 use Rattle.words.proofs.Tests.{cond_same}
 use Rattle.blocks.proofs.request.m_block.Goals as goal
@@ -17,8 +17,5 @@ returns-then-n-eq13 c = simp c.if-n-eq13.true
 
 pub returns : goal.returns
 returns c =
-    let third = c in
-    let second = c in
-    let first = c in
-    let n = first.args.n in
-    simp (ne_eqb n 0 first.if-n-eq0.false, ne_eqb n 1 second.if-n-eq1.false, ne_eqb n 12 third.if-n-eq12.false, ne_eqb n 13 c.if-n-eq13.false, cond_same)
+    let n = c.args.n in
+    simp (ne_eqb n 0 c.if-n-eq0.false, ne_eqb n 1 c.if-n-eq1.false, ne_eqb n 12 c.if-n-eq12.false, ne_eqb n 13 c.if-n-eq13.false, cond_same)

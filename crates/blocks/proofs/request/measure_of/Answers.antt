@@ -1,4 +1,4 @@
--- By the two marks. Assumes nothing.
+-- By the two marks.
 
 use Rattle.blocks.proofs.request.measure_of.Goals as goal
 

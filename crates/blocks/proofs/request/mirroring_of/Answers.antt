@@ -1,4 +1,4 @@
--- Both numbers are within their bounds. Assumes nothing.
+-- Both numbers are within their bounds.
 use Rattle.blocks.proofs.request.mirroring_of.Goals as goal
 
 pub small-part-requires : goal.small-part-requires
@@ -9,6 +9,4 @@ small-way-requires c = rw c.word_at-2.ensures c.requires.1
 
 pub returns : goal.returns
 returns c =
-    let way = c in
-    let part = c in
-    simp (part.small-part.ensures, part.word_at.ensures, way.small-way.ensures, way.word_at-2.ensures, c.axes_of-axes.ensures)
+    simp (c.small-part.ensures, c.word_at.ensures, c.small-way.ensures, c.word_at-2.ensures, c.axes_of-axes.ensures)

@@ -1,4 +1,4 @@
--- Each number, read back from the word that holds it. Assumes nothing.
+-- Each number, read back from the word that holds it.
 use mathlib.Core.Path.{◌≡◌}
 use mir.Syntax.{w32}
 use mir.Val.{to_z, of_z}

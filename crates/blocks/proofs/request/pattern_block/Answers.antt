@@ -1,4 +1,4 @@
--- Both numbers are within their bounds. Assumes nothing.
+-- Both numbers are within their bounds.
 use Rattle.blocks.proofs.request.pattern_block.Goals as goal
 
 pub small-tool-requires : goal.small-tool-requires

@@ -1,4 +1,4 @@
--- Both numbers, read back from the words that hold them. Assumes nothing.
+-- Both numbers, read back from the words that hold them.
 use mathlib.Core.Path.{◌≡◌}
 use mir.Syntax.{w32}
 use mir.Val.{to_z, of_z}

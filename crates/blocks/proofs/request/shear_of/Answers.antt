@@ -1,4 +1,4 @@
--- The angle within a turn; the lengths, read back from the words that hold them, and Q or P. Assumes nothing.
+-- The angle within a turn; the lengths, read back from the words that hold them, and Q or P.
 use mathlib.Core.Path.{◌≡◌}
 use mir.Syntax.{w32}
 use mir.Val.{to_z, of_z}
@@ -17,12 +17,11 @@ p_back c = search rules
 pub returns : goal.returns
 unfolding shear_pattern
 returns c =
-    let last = c in
-    let d = last.word_at-d in
+    let d = c.word_at-d in
     let d-back : to_z w32 (of_z w32 d.result.value) ≡ d.result.value = search rules in
-    let across = last.number_or-across in
+    let across = c.number_or-across in
     let across-back : to_z w32 (of_z w32 across.result) ≡ across.result = search rules in
-    let q = last.word_at-2 in
+    let q = c.word_at-2 in
     let third = (goal.at.returns c).After-word_at-p in
     let p = third.word_at-p in
     let angle = third.angle_of-angle in

@@ -1,4 +1,4 @@
--- Both counts are within their bounds. Assumes nothing.
+-- Both counts are within their bounds.
 use Rattle.blocks.proofs.request.steps_of.Goals as goal
 
 pub count-requires : goal.count-requires

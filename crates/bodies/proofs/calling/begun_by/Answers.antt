@@ -7,6 +7,4 @@ returns-in-Plain c = rw c.in-Plain.is refl
 
 pub returns-in-Mirrored : goal.returns-in-Mirrored
 returns-in-Mirrored c =
-    let s = c in
-    let g = c in
-    rw g.in-Mirrored.is (c.with_state.ensures ∙ rw (s.standing_at.ensures, g.giving-given.ensures) refl)
+    rw c.in-Mirrored.is (c.with_state.ensures ∙ rw (c.standing_at.ensures, c.giving-given.ensures) refl)

@@ -7,5 +7,4 @@ returns-in-Plain c = rw c.in-Plain.is refl
 
 pub returns-in-Mirrored : goal.returns-in-Mirrored
 returns-in-Mirrored c =
-    let s = c in
-    rw (s.in-Mirrored.is, c.with_state.ensures, s.standing_at.ensures) refl
+    rw (c.in-Mirrored.is, c.with_state.ensures, c.standing_at.ensures) refl

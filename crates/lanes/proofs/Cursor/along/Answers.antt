@@ -1,4 +1,4 @@
--- An even lane goes forward, an odd one back: the rest is that of the cursor's place. Assumes nothing.
+-- An even lane goes forward, an odd one back: the rest is that of the cursor's place.
 use Prim.Native.Nat.{◌%◌}
 use borrow.Author.Tests.{eq-eqb, ne_eqb}
 use Rattle.lanes.proofs.Cursors.{along-passed}

@@ -1,4 +1,4 @@
--- The cursor that is made is that of the next place, and its lane fits. Assumes nothing.
+-- The cursor that is made is that of the next place, and its lane fits.
 use mathlib.Core.Path.{ap}
 use native.Mathlib.Omega.{arith}
 use Rattle.lanes.specs.declared.Cursor.{Cursor}

@@ -1,4 +1,4 @@
--- A place is left, or none is. Assumes nothing.
+-- A place is left, or none is.
 use mathlib.Core.Path.{refl, sym}
 use native.Mathlib.Omega.{arith}
 use borrow.Author.Tests.{lt-ltb, le-ltb}
@@ -12,7 +12,6 @@ returns-then-job-entries c =
 
 pub returns : goal.returns
 returns c =
-    let t = c in
-    let a = t.args in
-    let left = lt-ltb a.entries a.job.places (omega (arith, t.if-job-entries.false)) in
+    let a = c.args in
+    let left = lt-ltb a.entries a.job.places (omega (arith, c.if-job-entries.false)) in
     (sym left, c.put_entry.ensures)

@@ -1,4 +1,4 @@
--- Four stores, each of a number that is read back from the word that held it. Assumes nothing.
+-- Four stores, each of a number that is read back from the word that held it.
 use mathlib.Core.Path.{◌≡◌}
 use Prim.Native.Nat.{◌/◌}
 use native.Mathlib.Omega.{arith}

@@ -1,4 +1,4 @@
--- Whether the stop has a place tells which way it went. Assumes nothing.
+-- Whether the stop has a place tells which way it went.
 use mathlib.Core.Path.{◌≡◌, sym, ◌∙◌}
 use mathlib.Core.Bool.{true, false}
 use Prim.Native.Nat.{◌<◌}

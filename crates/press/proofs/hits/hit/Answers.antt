@@ -1,5 +1,5 @@
 -- Each way out is the definition's, by the tests on the way; a place that is seen in range is not too far away to be a point.
--- Assumes nothing.
+--
 use mathlib.Core.Path.{◌≡◌, refl, sym, ap, ◌∙◌}
 use mathlib.Core.Bool.{Bool, true, false, cond}
 use native.Mathlib.Omega.{arith}
@@ -84,9 +84,8 @@ narrow-point-requires c =
 
 pub narrow-spot-requires : goal.narrow-spot-requires
 narrow-spot-requires c =
-    let s = c in
-    let p = point_of s.seen-seen.result in
-    let n : near p ≡ true = ap near s.seen-seen.ensures ∙ is_near (goal.at.narrow-spot-requires c).Else-not-covers in
+    let p = point_of c.seen-seen.result in
+    let n : near p ≡ true = ap near c.seen-seen.ensures ∙ is_near (goal.at.narrow-spot-requires c).Else-not-covers in
     (omega (arith, near-x p n), omega (arith, near-y p n))
 
 pub returns-then-not-enter : goal.returns-then-not-enter

@@ -1,4 +1,4 @@
--- What 15 makes of the place tells the two apart. Assumes nothing.
+-- What 15 makes of the place tells the two apart.
 use mathlib.Core.Path.{sym, ◌∙◌}
 use Rattle.aries.specs.WidePoints.{point_of}
 use Rattle.aries.proofs.WidePoints.{located-at, located_far}
@@ -6,10 +6,8 @@ use Rattle.press.proofs.hits.out_of_range.Goals as goal
 
 pub returns-in-At : goal.returns-in-At
 returns-in-At c =
-    let d = c in
-    simp (located-at (point_of d.args.place) c.in-At.field-0 (sym c.in-At.is ∙ d.located-located.ensures)).0
+    simp (located-at (point_of c.args.place) c.in-At.field-0 (sym c.in-At.is ∙ c.located-located.ensures)).0
 
 pub returns-in-TooFar : goal.returns-in-TooFar
 returns-in-TooFar c =
-    let d = c in
-    simp (located_far (point_of d.args.place) (sym c.in-TooFar.is ∙ d.located-located.ensures))
+    simp (located_far (point_of c.args.place) (sym c.in-TooFar.is ∙ c.located-located.ensures))

@@ -1,4 +1,4 @@
--- What is judged of the hit tells which way it went, and the laws of it what that comes to. Assumes nothing.
+-- What is judged of the hit tells which way it went, and the laws of it what that comes to.
 use mathlib.Core.Path.{◌≡◌, sym, ◌∙◌}
 use Prim.Native.Nat.{◌<◌}
 use native.Mathlib.Omega.{arith}
@@ -33,11 +33,10 @@ overflow_add-entries c =
 
 pub returns-in-Refused : goal.returns-in-Refused
 returns-in-Refused c =
-    let j = c in
     let h = (goal.at.returns-in-Refused c).After-hit-judged in
     let a = (start h).args in
     rw c.refused.ensures
-    (punch-refused a.frame a.line (point h) a.progress j.in-Refused.number (sym j.in-Refused.is ∙ h.hit-judged.ensures.0))
+    (punch-refused a.frame a.line (point h) a.progress c.in-Refused.number (sym c.in-Refused.is ∙ h.hit-judged.ensures.0))
 
 pub returns-in-Made : goal.returns-in-Made
 returns-in-Made c =

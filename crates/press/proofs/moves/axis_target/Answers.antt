@@ -1,4 +1,4 @@
--- Each branch is the definition's choice. Assumes nothing.
+-- Each branch is the definition's choice.
 use mathlib.Core.Path.{◌≡◌}
 use Prim.Native.Nat.{◌≤◌}
 use native.Mathlib.Nat.{le_trans}

@@ -1,5 +1,5 @@
 -- Each way out is the definition's, by the tests on the way, whatever is lent; an end that is seen in range is not too far away
--- to be a point. Assumes nothing.
+-- to be a point.
 use mathlib.Core.Path.{◌≡◌, refl, sym, ap, ap₂, ◌∙◌}
 use mathlib.Core.Bool.{Bool, true, false, cond}
 use Prim.Native.Nat.{ℕ}

@@ -1,4 +1,4 @@
--- A punch at the target, with the progress that the definition gives it. Assumes nothing.
+-- A punch at the target, with the progress that the definition gives it.
 use mathlib.Core.Path.{◌≡◌, refl, ap, ◌∙◌}
 use Prim.Native.Nat.{ℕ}
 use Rattle.aries.specs.declared.block.Axes.{Axes}

@@ -1,4 +1,4 @@
--- Each way out is the definition's, by the tests on the way, whatever is lent. Assumes nothing.
+-- Each way out is the definition's, by the tests on the way, whatever is lent.
 use mathlib.Core.Path.{◌≡◌, refl, sym, ap, ◌∙◌}
 use mathlib.Core.Bool.{true}
 use Rattle.aries.specs.declared.point.Point.{Point}
@@ -40,10 +40,9 @@ pub returns-in-At : goal.returns-in-At
 unfolding set_pattern_origin
 returns-in-At c =
     λ l.
-    let w = c in
     let o = (goal.at.returns-in-At c).In-At in
     let a = (entry (goal.at.returns-in-At c).After-located-located).args in
-    let waits = w.waiting_at-waiting.ensures ∙ ap (λ (p : Point). waiting_for a.progress.state (At p)) (is-located o).1 in
+    let waits = c.waiting_at-waiting.ensures ∙ ap (λ (p : Point). waiting_for a.progress.state (At p)) (is-located o).1 in
     let left = c.with_state.ensures ∙ ap (with_state a.progress) waits in
     carried_no_entry a.frame (λ j. set_pattern_origin j a.frame a.line a.axes) {g = a.progress} (rw left at c.passed.ensures) refl
     (simp (is-located o).0)

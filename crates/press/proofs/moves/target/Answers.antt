@@ -1,4 +1,4 @@
--- The two axes, each read back from the words that held its numbers. Assumes nothing.
+-- The two axes, each read back from the words that held its numbers.
 use mathlib.Core.Path.{◌≡◌, ap₂, ◌∙◌}
 use borrow.Author.Rules.{rules}
 use mir.Syntax.{w32, w64}

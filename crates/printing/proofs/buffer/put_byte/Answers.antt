@@ -1,4 +1,4 @@
--- One byte is stored. Assumes nothing.
+-- One byte is stored.
 use Rattle.printing.proofs.Buffers.{put_one}
 use Rattle.printing.proofs.buffer.put_byte.Goals as goal
 

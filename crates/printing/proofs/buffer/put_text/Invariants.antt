@@ -1,4 +1,4 @@
--- The invariant: the first bytes of the text stand in the buffer. Assumes nothing.
+-- The invariant: the first bytes of the text stand in the buffer.
 use mathlib.Core.Path.{◌≡◌}
 use Prim.Native.Nat.{◌-◌, ◌≤◌}
 use lib.ListN.{length}

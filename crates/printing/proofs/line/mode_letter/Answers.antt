@@ -1,4 +1,4 @@
--- The mode numbers one by one, and O for what is left. Assumes nothing.
+-- The mode numbers one by one, and O for what is left.
 use mathlib.Core.Path.{◌≡◌, sym}
 use lib.IntN.{pos}
 use mir.Facts.{to_z-of_z}

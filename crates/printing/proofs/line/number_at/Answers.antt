@@ -1,4 +1,4 @@
--- Inside the list its number, past its end a zero. Assumes nothing.
+-- Inside the list its number, past its end a zero.
 use mathlib.Core.Path.{sym}
 use lib.IntN.{pos}
 use lib.ListN.{get_or-eq_default}

@@ -1,4 +1,4 @@
--- The number, and the space before it. Assumes nothing.
+-- The number, and the space before it.
 use mathlib.Core.Path.{◌≡◌, ◌∙◌}
 use Prim.Native.Nat.{◌≤◌}
 use native.Mathlib.Omega.{arith}

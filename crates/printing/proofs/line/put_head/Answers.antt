@@ -1,4 +1,4 @@
--- The line feed, the count before it, and the word before both. Assumes nothing.
+-- The line feed, the count before it, and the word before both.
 use native.Mathlib.Omega.{arith}
 use borrow.Author.Rules.{rules}
 use Rattle.aries.specs.Text.{bytes}

@@ -1,4 +1,4 @@
--- The line feed, the letter before it, and the space before both. Assumes nothing.
+-- The line feed, the letter before it, and the space before both.
 use mathlib.Core.Path.{ap, ◌∙◌}
 use mir.Syntax.{w32}
 use Rattle.signed.proofs.Integers.{read_back}
@@ -8,10 +8,6 @@ use Rattle.printing.proofs.line.put_mode.Goals as goal
 
 pub returns : goal.returns
 returns c =
-    let space = c in
-    let letter = c in
-    let number = c in
-    let feed = c in
-    let n = number.number_at in
-    let e = letter.mode_letter.ensures ∙ ap mode_letter (read_back w32 n.result n.type_inv ∙ n.ensures) in
-    rw (← e) (put_then (put_then feed.put_byte-feed.ensures letter.put_byte-letter.ensures) space.put_byte.ensures)
+    let n = c.number_at in
+    let e = c.mode_letter.ensures ∙ ap mode_letter (read_back w32 n.result n.type_inv ∙ n.ensures) in
+    rw (← e) (put_then (put_then c.put_byte-feed.ensures c.put_byte-letter.ensures) c.put_byte.ensures)

@@ -1,4 +1,4 @@
--- From the line feed to the first word, each in front of what comes after it. Assumes nothing.
+-- From the line feed to the first word, each in front of what comes after it.
 use native.Mathlib.Omega.{arith}
 use borrow.Author.Rules.{rules}
 use Rattle.aries.specs.Text.{bytes}

@@ -14,10 +14,9 @@ use Rattle.printing.proofs.number.put_decimal.Goals as goal
 room : (c : At-loop-rest) → Room 1 c.loop-rest.at c.loop-rest.out
 room c =
     let p = c.loop-rest.invariant in
-    let s = c in
     record {
-      fits = omega (arith, decimal-some c.loop-rest.rest, p.0.placed, s.requires.fits);
-      inside = omega (arith, p.0.earlier, p.1, s.requires.inside);
+      fits = omega (arith, decimal-some c.loop-rest.rest, p.0.placed, c.requires.fits);
+      inside = omega (arith, p.0.earlier, p.1, c.requires.inside);
     }
 
 pub overflow_sub-at : goal.overflow_sub-at

@@ -1,4 +1,4 @@
--- The invariant: the digits of what is left of the number are left to be put. Assumes nothing.
+-- The invariant: the digits of what is left of the number are left to be put.
 use mathlib.Core.Path.{◌≡◌}
 use lib.ListN.{length}
 use Rattle.printing.specs.Decimals.{decimal}

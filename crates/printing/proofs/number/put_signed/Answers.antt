@@ -1,4 +1,4 @@
--- The digits of the size come first, and the minus in front of them. Assumes nothing.
+-- The digits of the size come first, and the minus in front of them.
 use mathlib.Core.Path.{◌≡◌, sym, ap, ◌∙◌}
 use mathlib.Core.Bool.{Bool, true, false}
 use mathlib.Core.List.{◌∷◌}

@@ -1,4 +1,4 @@
--- The figure, and the space before it. Assumes nothing.
+-- The figure, and the space before it.
 use native.Mathlib.Omega.{arith}
 use borrow.Author.Rules.{rules}
 use Rattle.printing.proofs.Buffers.{put_then}

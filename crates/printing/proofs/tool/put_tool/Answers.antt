@@ -1,4 +1,4 @@
--- From the line feed to the tool's number, each in front of what comes after it. Assumes nothing.
+-- From the line feed to the tool's number, each in front of what comes after it.
 use Prim.Native.Nat.{◌+◌}
 use native.Mathlib.Omega.{arith}
 use borrow.Author.Rules.{rules}

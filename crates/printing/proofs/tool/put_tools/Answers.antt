@@ -16,7 +16,7 @@ loop-left-init c =
 pub put_used-at-requires : goal.put_used-at-requires
 put_used-at-requires c =
     let p = c.loop-left in
-    let s = c in record { i_lt_last_tool = omega (arith, p.invariant.2); room = record { fits = omega (arith, p.invariant.2, p.invariant.3, s.requires); inside = omega (arith, p.invariant.0.earlier, p.invariant.1) } }
+    record { i_lt_last_tool = omega (arith, p.invariant.2); room = record { fits = omega (arith, p.invariant.2, p.invariant.3, c.requires); inside = omega (arith, p.invariant.0.earlier, p.invariant.1) } }
 
 pub loop-left-preserved : goal.loop-left-preserved
 loop-left-preserved c =

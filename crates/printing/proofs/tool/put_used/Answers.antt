@@ -1,4 +1,4 @@
--- Whether the tool has hits, read in its place of the tally. Assumes nothing.
+-- Whether the tool has hits, read in its place of the tally.
 use Prim.Native.Nat.{◌*◌, ◌≤◌, ◌<◌}
 use native.Mathlib.Omega.{arith}
 use borrow.Author.Tests.{lt-ltb, le-ltb}

@@ -5,8 +5,6 @@ use Rattle.stretches.proofs.direct.carry_pattern.Goals as goal
 
 pub returns : goal.returns
 returns c =
-    let o = c in
-    let s = c in
-    let a = s.args in
+    let a = c.args in
     rw c.count_hits.ensures
-    (hits_counted (limits a.frame.job) a.frame a.line a.progress a.tally.now a.block o.pattern_outcome-outcome.ensures (rw s.requires.block_value))
+    (hits_counted (limits a.frame.job) a.frame a.line a.progress a.tally.now a.block c.pattern_outcome-outcome.ensures (rw c.requires.block_value))

@@ -4,15 +4,13 @@ use Rattle.tables.proofs.row.skip_spaces.Goals as goal
 
 pub returns-then-line-i-ne-SPACE : goal.returns-then-line-i-ne-SPACE
 returns-then-line-i-ne-SPACE c =
-    let here = c in
-    let t = here.args.line.now in
-    omega (arith, spaces_end t here.loop-i.i c.loop-i-test.true c.if-line-i-ne-SPACE.true)
+    let t = c.args.line.now in
+    omega (arith, spaces_end t c.loop-i.i c.loop-i-test.true c.if-line-i-ne-SPACE.true)
 
 pub loop-i-preserved : goal.loop-i-preserved
 loop-i-preserved c =
-    let here = c in
-    let t = here.args.line.now in
-    omega (arith, spaces_go_on t here.loop-i.i c.loop-i-test.true c.if-line-i-ne-SPACE.false)
+    let t = c.args.line.now in
+    omega (arith, spaces_go_on t c.loop-i.i c.loop-i-test.true c.if-line-i-ne-SPACE.false)
 
 pub returns : goal.returns
 returns c =

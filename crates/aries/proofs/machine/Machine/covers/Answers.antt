@@ -1,4 +1,4 @@
--- The two coordinates are tested one after the other. Assumes nothing.
+-- The two coordinates are tested one after the other.
 use mathlib.Core.Path.{◌≡◌, sym, ◌∙◌}
 use mathlib.Core.Bool.{Bool, true, false, ◌&&◌}
 use lib.Signed.{le_z}

@@ -1,4 +1,4 @@
--- Y is tested first, then X against each machine's. Assumes nothing.
+-- Y is tested first, then X against each machine's.
 use mathlib.Core.Path.{◌≡◌, sym, ◌∙◌}
 use lib.IntN.{pos}
 use borrow.Author.Rules.{rules}

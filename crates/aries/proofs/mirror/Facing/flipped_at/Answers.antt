@@ -1,4 +1,4 @@
--- A span and a length that is near make one that fits 32 bits. Assumes nothing.
+-- A span and a length that is near make one that fits 32 bits.
 use mathlib.Core.Path.{◌≡◌, ◌∙◌}
 use Prim.Native.Nat.{◌≤◌}
 use native.Mathlib.Nat.{le_trans}

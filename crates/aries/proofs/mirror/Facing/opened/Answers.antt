@@ -1,4 +1,4 @@
--- The choice is the definition's. Assumes nothing.
+-- The choice is the definition's.
 use mir.Facts.{to_z-of_z}
 use Rattle.aries.proofs.mirror.Facing.opened.Goals as goal
 

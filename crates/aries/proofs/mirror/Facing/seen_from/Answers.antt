@@ -1,4 +1,4 @@
--- Flipped, by the formula itself; else the origin drops out. Assumes nothing.
+-- Flipped, by the formula itself; else the origin drops out.
 use mathlib.Core.Path.{◌≡◌, sym, ◌∙◌}
 use borrow.Author.Rules.{rules}
 use lib.IntN.{+ℤ_comm}

@@ -1,4 +1,4 @@
--- Both axes are straight. Assumes nothing.
+-- Both axes are straight.
 use Rattle.aries.proofs.mirror.Mirror.none.Goals as goal
 
 pub returns : goal.returns

@@ -1,4 +1,4 @@
--- Each axis by what Q says of it. Assumes nothing.
+-- Each axis by what Q says of it.
 use mathlib.Core.Path.{◌≡◌}
 use borrow.Author.Rules.{rules}
 use mir.Syntax.{w32}

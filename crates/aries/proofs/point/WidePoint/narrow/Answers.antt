@@ -1,4 +1,4 @@
--- The two coordinates, read back from the words that held them. Assumes nothing.
+-- The two coordinates, read back from the words that held them.
 use mathlib.Core.Path.{◌≡◌}
 use borrow.Author.Rules.{rules}
 use mir.Syntax.{w32, w64}

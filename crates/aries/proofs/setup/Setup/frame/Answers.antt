@@ -1,4 +1,4 @@
--- No mirror is open. Assumes nothing.
+-- No mirror is open.
 use Rattle.aries.proofs.setup.Setup.frame.Goals as goal
 
 pub returns : goal.returns

@@ -1,4 +1,4 @@
--- A steady frame has spans within the limit. Assumes nothing.
+-- A steady frame has spans within the limit.
 use native.Mathlib.Omega.{arith}
 use Rattle.aries.proofs.Judging.{near_both}
 use Rattle.aries.proofs.state.Frame.mirrored.Goals as goal

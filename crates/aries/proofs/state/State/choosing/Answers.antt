@@ -1,4 +1,4 @@
--- The choice is the definition's. Assumes nothing.
+-- The choice is the definition's.
 use borrow.Author.Tests.{lt-ltb, le-ltb}
 use Rattle.aries.proofs.state.State.choosing.Goals as goal
 

@@ -1,4 +1,4 @@
--- Each letter is the last one given. Assumes nothing.
+-- Each letter is the last one given.
 use Rattle.aries.proofs.state.State.giving.Goals as goal
 
 pub returns : goal.returns

@@ -1,4 +1,4 @@
--- Dropped, and moved. Assumes nothing.
+-- Dropped, and moved.
 use Rattle.aries.proofs.state.State.standing_at.Goals as goal
 
 pub returns : goal.returns

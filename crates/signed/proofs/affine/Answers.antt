@@ -1,6 +1,5 @@
--- The product of a count of 16 bits is small, and the sum with it fits 64. Assumes nothing.
+-- The product of a count of 16 bits is small, and the sum with it fits 64.
 use mathlib.Core.Path.{refl}
-use borrow.Author.Rules.{rules}
 use native.Mathlib.Nat.{le_trans}
 use native.Mathlib.Omega.{arith}
 use Prim.Native.Nat.{◌≤◌, ◌<◌, ◌^◌}
@@ -10,10 +9,10 @@ use mir.Syntax.{w32, w64}
 use mir.Val.{SFits}
 use mir.Facts.{to_z-of_z, to_z_pos}
 use Rattle.signed.proofs.Integers.{read_wide, widened, abs_word, abs_add, abs_mul, product_fits, count_fits, fits_abs}
-use Rattle.signed.proofs.affine.Statement.{statement}
-use Rattle.signed.proofs.affine.Tie as tie
+use Rattle.signed.proofs.affine.Goals.{Start}
+use Rattle.signed.proofs.affine.Goals as goal
 
-module _ (c : tie.Start) where
+module _ (c : Start) where
   n-small : c.args.n < 2 ^ 63
   n-small = omega arith
 
@@ -33,20 +32,17 @@ module _ (c : tie.Start) where
   sum-in : SFits w64 (c.args.a +ℤ pos c.args.n *ℤ c.args.b)
   sum-in = fits_abs w64 _ 140737488355328 sum-small (lit< tt)
 
-cast-result : tie.Need-overflow_cast-result
-cast-result c = read_wide c.args.a c.ranges.a
+pub overflow_cast-result : goal.overflow_cast-result
+overflow_cast-result c = read_wide c.args.a c.ranges.a
 
-cast-result-2 : tie.Need-overflow_cast-result-2
-cast-result-2 c = search rules
+pub overflow_cast-result-3 : goal.overflow_cast-result-3
+overflow_cast-result-3 c = read_wide c.args.b c.ranges.b
 
-cast-result-3 : tie.Need-overflow_cast-result-3
-cast-result-3 c = read_wide c.args.b c.ranges.b
+pub overflow_mul-result : goal.overflow_mul-result
+overflow_mul-result c = simp (widened c.args.b c.ranges.b, to_z_pos w64 (n-small c)) (product-in c)
 
-mul-result : tie.Need-overflow_mul-result
-mul-result c = simp (widened c.args.b c.ranges.b, to_z_pos w64 (n-small c)) (product-in c)
-
-add-result : tie.Need-overflow_add-result
-add-result c =
+pub overflow_add-result : goal.overflow_add-result
+overflow_add-result c =
     simp (
       widened c.args.a c.ranges.a,
       widened c.args.b c.ranges.b,
@@ -55,7 +51,7 @@ add-result c =
     )
     (sum-in c)
 
-returns : tie.Need-returns
+pub returns : goal.returns
 returns c =
     simp (
       widened c.args.a c.ranges.a,
@@ -64,8 +60,4 @@ returns c =
       to_z-of_z (product-in c),
       to_z-of_z (sum-in c),
     )
-    (refl, le_trans (sum-small c) (lit≤ tt))
-
-pub affine_spec : {M : Type 1} → statement M
-affine_spec =
-    tie.close (tie.spec cast-result cast-result-2 cast-result-3 mul-result add-result returns)
+    (record { value = refl; result_bound = le_trans (sum-small c) (lit≤ tt) })
