@@ -135,12 +135,16 @@ def pages():
 def main():
     if sys.argv[1:] == ["--pages"]:
         return pages()
+    if sys.argv[1:] not in ([], ["--look"]):
+        sys.exit(__doc__)
     turned = respelled()
     if sys.argv[1:] == ["--look"]:
         together(turned)
         for old, new in sorted(turned.items()):
             print(old, new)
         return
+    if os.path.exists(LIST):
+        sys.exit("the names are respelled already: tools/respelled.txt has them")
     for f in files("antt", "rt"):
         before = read(f)
         after = turn(before, turned, f.endswith(".rt"))
