@@ -30,10 +30,11 @@ def defined():
 
 
 def in_code(name):
-    """A crate has a function, type or constant of this name."""
-    crate, last = name.split('::')[0], name.split('::')[-1]
+    """A crate has a module, function, type, constant, field or variant of each name behind the crate's own."""
+    crate, *parts = name.split('::')
     source = '\n'.join(p.read_text() for p in (CRATES / crate / 'src').rglob('*.rt'))
-    return re.search(r'\b(?:fn|struct|enum|const|mod) %s\b|^    (?:pub )?%s\b[,:({]?' % (last, last), source, re.M)
+    shape = r'\b(?:fn|struct|enum|const|mod) %s\b|^    (?:pub )?%s\b[,:({]?'
+    return all(re.search(shape % (part, part), source, re.M) for part in parts)
 
 
 def names_of(page, files):

@@ -1,17 +1,18 @@
 -- Every definition that carries out blocks of a body follows itself without limits on blocks and places: moved by a vector, in
 -- other mirrors, under another job, in other lines, from other places of another text, with counts that go up by as many
 -- (`Follows`). One law a definition; a code that is added later adds a case to `carry_direct_follows`.
+use Rattle.std.specs.Prelude.{Err, None, Ok, Option, Some, Result}
 use mathlib.Core.Path.{◌≡◌, refl, sym, ap, ap₂, ◌∙◌, subst, fun_ext}
 use mathlib.Core.Bool.{Bool, true, false, not, cond, ◌||◌}
 use mathlib.Core.List.{List, [], ◌∷◌}
-use mathlib.Core.Option.{Option, none, some}
 use Prim.Native.Nat.{ℕ, zero, suc, ◌-◌}
 use native.Mathlib.Omega.{arith}
 use lib.Dec.{ltb}
 use lib.IntN.{ℤ, ◌+ℤ◌}
 use lib.ListN.{get_or}
+use Rattle.aries.specs.declared.refusal.Refusal.{Refusal}
+use Rattle.aries.specs.declared.refusal.Refusal.TheVariants.{BlocksSpent, NotStored, TooDeep, NoTool, TooFar, OutOfRange, ListFull, ShearUnfit}
 use Rattle.aries.specs.declared.point.Point.{Point}
-use Rattle.aries.specs.declared.block.Axis.{Axis}
 use Rattle.aries.specs.declared.block.Axes.{Axes}
 use Rattle.aries.specs.declared.block.Pattern.{Pattern}
 use Rattle.aries.specs.declared.block.Pattern.TheVariants.{Line, Arc, Circle, Grid, Shear}
@@ -22,16 +23,12 @@ use Rattle.aries.specs.declared.block.Call.{Call}
 use Rattle.aries.specs.declared.block.Call.TheVariants.{Plain, Mirrored}
 use Rattle.aries.specs.declared.block.Block.{Block}
 use Rattle.aries.specs.declared.block.Instruction.{Instruction}
-use Rattle.aries.specs.declared.state.Waiting.{Waiting}
-use Rattle.aries.specs.declared.state.Waiting.TheVariants.{Unset, At}
-use Rattle.aries.specs.declared.state.Stored.{Stored}
-use Rattle.aries.specs.declared.state.Stored.TheVariants.{Empty, Kept}
 use Rattle.aries.specs.declared.state.State.{State}
 use Rattle.aries.specs.declared.reader.Reader.{Reader}
 use Rattle.aries.specs.declared.mirror.Mirror.{Mirror}
 use Rattle.aries.specs.declared.state.Frame.{Frame}
 use Rattle.aries.specs.declared.state.Progress.{Progress}
-use Rattle.aries.specs.Outcome.{Out, refused, ◌>>=◌, need, given, Checked, passes, fails, in_line}
+use Rattle.aries.specs.Outcome.{Out, refused, ◌>>=◌, need, given, in_line}
 use Rattle.aries.specs.Text.{lines}
 use Rattle.aries.specs.Machine.{in_range}
 use Rattle.aries.specs.Reader.{reader_of}
@@ -40,7 +37,7 @@ use Rattle.aries.specs.Entries.{Made, no_entry, map_after}
 use Rattle.aries.specs.Judging.{Judging, room, judged, near}
 use Rattle.aries.specs.Mirrors.{opened, mirrored, seen, reflected}
 use Rattle.aries.specs.Moves.{◌⊕◌, moved_to, waiting_for, in_mode, choosing, remembering, measuring, dropping, standing_at, giving, axis_target, target, with_state, enter, hit_of, punch, position, move, set_pattern_origin}
-use Rattle.aries.specs.Patterns.{hit_offset, hit_count, reach_is_near, shear_is_fit, punches, start_at, start_of, ending, pattern, run_pattern, empty_memory, recalled, recall}
+use Rattle.aries.specs.Patterns.{hit_offset, hit_count, reach_is_near, shear_is_fit, punches, start_at, start_of, ending, pattern, run_pattern, recalled, recall}
 use Rattle.aries.specs.Macros.{Body, Bodies, Calls, carry_direct, call_mirrored, carry_call, carry, is_counted, may_come, begun, begin, run_block, run_line, run_lines, call, run_body}
 use Rattle.aries.specs.CopyRuns.{bytes_of}
 use Rattle.aries.proofs.Outcomes.{>>=-assoc}
@@ -52,14 +49,11 @@ use Rattle.aries.proofs.Follows.{moved_waiting, moved_state, moved_frame, Motion
 -- ---- Points named by a moved state are moved
 
 axis_moves :
-    (a : Axis) (incremental : Bool) (origin current d : ℤ)
+    (a : Option ℤ) (incremental : Bool) (origin current d : ℤ)
     → axis_target a incremental (origin +ℤ d) (current +ℤ d) ≡ axis_target a incremental origin current +ℤ d
-axis_moves a incremental o c d = go a.written incremental
-  where
-    go : (w i : Bool) → cond w (cond i (c +ℤ d) (o +ℤ d) +ℤ a.value) (c +ℤ d) ≡ cond w (cond i c o +ℤ a.value) c +ℤ d
-    go false i = refl
-    go true true = +ℤ-swap c d a.value
-    go true false = +ℤ-swap o d a.value
+axis_moves None i o c d = refl
+axis_moves (Some value) true o c d = +ℤ-swap c d value
+axis_moves (Some value) false o c d = +ℤ-swap o d value
 
 target_moves : (v : Point) (places : ℕ) (m : Mirror) (f : Frame) (s : State) (a : Axes) → target (moved_frame v places m f) (moved_state v s) a ≡ target f s a ⊕ v
 target_moves v places m f s a =
@@ -67,9 +61,9 @@ target_moves v places m f s a =
     (axis_moves a.x s.incremental f.origin.x s.current.x v.x)
     (axis_moves a.y s.incremental f.origin.y s.current.y v.y)
 
-start_moves : (v : Point) (w : Waiting) (p : Point) → start_at (moved_waiting v w) (p ⊕ v) ≡ start_at w p ⊕ v
-start_moves v Unset p = refl
-start_moves v (At q) p = refl
+start_moves : (v : Point) (w : Option Point) (p : Point) → start_at (moved_waiting v w) (p ⊕ v) ≡ start_at w p ⊕ v
+start_moves v None p = refl
+start_moves v (Some q) p = refl
 
 -- a mirror that opens inside those of both leaves it so
 sees_mirrored : (v : Motion) (places : ℕ) (f : Frame) (m : Mirror) (q : ℕ) (spans : Point) → Sees v places f m → Sees v places (mirrored q spans f) (opened q spans m)
@@ -90,7 +84,7 @@ pub record Bounds (E : Type 0) (j : Judging) (bounds : Bool) (v : Motion) (place
 
 -- no limit on blocks and places
 abbrev pub unlimited : Bool → Judging
-unlimited bounds = record { blocks = none; bounds = bounds; places = none }
+unlimited bounds = record { blocks = None; bounds = bounds; places = None }
 
 module _ {E : Type 0} (j : Judging) (bounds : Bool) (v : Motion) (places : ℕ) (w : Bounds E j bounds v places) where
   -- the judging of y
@@ -112,9 +106,9 @@ module _ {E : Type 0} (j : Judging) (bounds : Bool) (v : Motion) (places : ℕ) 
     -- a hit that is seen at one point, and another that becomes the current point
     punch_at : Point → Point → Progress → Out (Made Progress)
     punch_at q p g = do
-      _ ← need (ltb 0 g.state.tool) 14 line
-      _ ← need (judged j.bounds (near q)) 15 line
-      _ ← need (judged j.bounds (in_range (moved m f) q)) 16 line
+      _ ← need (ltb 0 g.state.tool) NoTool line
+      _ ← need (judged j.bounds (near q)) TooFar line
+      _ ← need (judged j.bounds (in_range (moved m f) q)) OutOfRange line
       enter j line (hit_of g.state q) (with_state g (moved_to g.state p))
 
     punch_follows : (p : Point) → punch j (moved m f) line (p ⊕ v.by) beside punch free f line' p
@@ -122,10 +116,10 @@ module _ {E : Type 0} (j : Judging) (bounds : Bool) (v : Motion) (places : ℕ) 
     punch_follows p s n n' =
         subst (λ (q : Point). Follows E j v n n' (punch_at q (p ⊕ v.by) (progress (moved_state v.by s) n)) (punch free f line' p (progress s n')))
         (sym (sees p))
-        (follows_need 14 line line' (alike {t = ltb 0 s.tool})
-        (follows_need 15 line line' (w.seen-near (seen f p))
-        (follows_need 16 line line' (w.coverage f m (seen f p))
-        (follows_entry 17 line (hit_of s (seen f p)) (moved_to s p) n n'))))
+        (follows_need NoTool line line' (alike {t = ltb 0 s.tool})
+        (follows_need TooFar line line' (w.seen-near (seen f p))
+        (follows_need OutOfRange line line' (w.coverage f m (seen f p))
+        (follows_entry ListFull line (hit_of s (seen f p)) (moved_to s p) n n'))))
 
     position_follows : (a : Axes) (t : ℕ) → position j (moved m f) line a t beside position free f line' a t
     unfolding position
@@ -138,8 +132,8 @@ module _ {E : Type 0} (j : Judging) (bounds : Bool) (v : Motion) (places : ℕ) 
     -- a move whose end is seen at one point, and to another
     move_to : ℕ → Point → Point → Progress → Out (Made Progress)
     move_to t q p g = do
-      _ ← need (judged j.bounds (near q)) 15 line
-      _ ← need (judged j.bounds (in_range (moved m f) q)) 16 line
+      _ ← need (judged j.bounds (near q)) TooFar line
+      _ ← need (judged j.bounds (in_range (moved m f) q)) OutOfRange line
       no_entry (with_state g (moved_to (dropping (choosing g.state t)) p))
 
     move_follows : (a : Axes) (t : ℕ) → move j (moved m f) line a t beside move free f line' a t
@@ -150,23 +144,23 @@ module _ {E : Type 0} (j : Judging) (bounds : Bool) (v : Motion) (places : ℕ) 
         (subst
         (λ (q : Point). Follows E j v n n' (move_to t q (target f s a ⊕ v.by) (progress (moved_state v.by s) n)) (move free f line' a t (progress s n')))
         (sym (sees (target f s a)))
-        (follows_need 15 line line' (w.seen-near (seen f (target f s a)))
-        (follows_need 16 line line' (w.coverage f m (seen f (target f s a)))
+        (follows_need TooFar line line' (w.seen-near (seen f (target f s a)))
+        (follows_need OutOfRange line line' (w.coverage f m (seen f (target f s a)))
         (follows_no_entry (moved_to (dropping (choosing s t)) (target f s a)) n n'))))
 
     -- a waiting origin at a point
     wait_at : Point → Progress → Out (Made Progress)
     wait_at q g = do
-      _ ← need (judged j.bounds (near q)) 15 line
-      no_entry (with_state g (waiting_for g.state (At q)))
+      _ ← need (judged j.bounds (near q)) TooFar line
+      no_entry (with_state g (waiting_for g.state (Some q)))
 
     set_pattern_origin_follows : (a : Axes) → set_pattern_origin j (moved m f) line a beside set_pattern_origin free f line' a
     unfolding set_pattern_origin wait_at
     set_pattern_origin_follows a s n n' =
         subst (λ (q : Point). Follows E j v n n' (wait_at q (progress (moved_state v.by s) n)) (set_pattern_origin free f line' a (progress s n')))
         (sym (target_moves v.by places m f s a))
-        (follows_need 15 line line' (w.nearness (target f s a))
-        (follows_no_entry (waiting_for s (At (target f s a))) n n'))
+        (follows_need TooFar line line' (w.nearness (target f s a))
+        (follows_no_entry (waiting_for s (Some (target f s a))) n n'))
 
     -- ---- Patterns
 
@@ -193,23 +187,23 @@ module _ {E : Type 0} (j : Judging) (bounds : Bool) (v : Motion) (places : ℕ) 
     pattern_follows : (p : Pattern) → pattern j (moved m f) line p beside pattern free f line' p
     unfolding pattern
     pattern_follows p s n n' =
-        rw (start_moves v.by s.waiting.origin s.current)
-        (follows_need 18 line line' (alike {t = shear_is_fit p})
-        (follows_need 15 line line' (w.reach (reach_is_near p))
+        rw (start_moves v.by s.waiting s.current)
+        (follows_need ShearUnfit line line' (alike {t = shear_is_fit p})
+        (follows_need TooFar line line' (w.reach (reach_is_near p))
         (ending_follows p (start_of s) (punches_follow p (start_of s) (hit_count p) 0 (moved_to (dropping s) (start_of s)) n n'))))
 
     run_pattern_follows : (p : Pattern) (t a : ℕ) → run_pattern j (moved m f) line p t a beside run_pattern free f line' p t a
     unfolding run_pattern
     run_pattern_follows p t a s n n' = pattern_follows p (remembering (choosing s t) a p) n n'
 
-    recalled_follows : (o : Stored) → recalled j (moved m f) line o beside recalled free f line' o
+    recalled_follows : (o : Option Pattern) → recalled j (moved m f) line o beside recalled free f line' o
     unfolding pattern
-    recalled_follows Empty s n n' = refusals
-    recalled_follows (Kept p) s n n' = pattern_follows p s n n'
+    recalled_follows None s n n' = refusals
+    recalled_follows (Some p) s n n' = pattern_follows p s n n'
 
     recall_follows : (k : ℕ) → recall j (moved m f) line k beside recall free f line' k
     unfolding recall
-    recall_follows k s n n' = recalled_follows (get_or s.memories (k - 1) empty_memory).stored s n n'
+    recall_follows k s n n' = recalled_follows (get_or s.memories (k - 1) None) s n n'
 
     -- ---- Direct blocks
 
@@ -223,7 +217,7 @@ module _ {E : Type 0} (j : Judging) (bounds : Bool) (v : Motion) (places : ℕ) 
     carry_direct_follows (Recall k) s n n' = recall_follows k s n n'
     carry_direct_follows (Nibble b) s n n' = follows_no_entry (in_mode s b) n n'
     carry_direct_follows Idle s n n' = follows_no_entry s n n'
-    carry_direct_follows (Stop optional) s n n' = follows_entry 17 line (Entry.Stop optional) s n n'
+    carry_direct_follows (Stop optional) s n n' = follows_entry ListFull line (Entry.Stop optional) s n n'
 
   -- ---- Blocks and lines, for whatever calls do that follow each other
 
@@ -249,26 +243,26 @@ module _ {E : Type 0} (j : Judging) (bounds : Bool) (v : Motion) (places : ℕ) 
     carry_follows line line' (Block.Outside o) s n n' = refusals
 
     -- a block that has been decoded, if it could be, and counts or not
-    abbrev decoded_block : Judging → Calls → Frame → ℕ → Bool → Checked Instruction → State → Counts → Out (Made Progress)
+    abbrev decoded_block : Judging → Calls → Frame → ℕ → Bool → Result Instruction Refusal → State → Counts → Out (Made Progress)
     decoded_block j c f line counted o s n = ◌>>=◌ (in_line line o) (λ i. carry j c f line i.block (begun counted i.measure (progress s n)))
 
     decoded_follows :
-        (line line' : ℕ) (counted : Bool) (o : Checked Instruction) (s : State) (n n' : Counts)
+        (line line' : ℕ) (counted : Bool) (o : Result Instruction Refusal) (s : State) (n n' : Counts)
         → Follows E j v (cond counted (another_block n) n) (cond counted (another_block n') n')
         (decoded_block j c (moved m f) line counted o (moved_state v.by s) n) (decoded_block free c' f line' counted o s n')
-    decoded_follows line line' counted (fails number) s n n' = refusals
-    decoded_follows line line' true (passes i) s n n' = carry_follows line line' i.block (measuring s i.measure) (another_block n) (another_block n')
-    decoded_follows line line' false (passes i) s n n' = carry_follows line line' i.block (measuring s i.measure) n n'
+    decoded_follows line line' counted (Err number) s n n' = refusals
+    decoded_follows line line' true (Ok i) s n n' = carry_follows line line' i.block (measuring s i.measure) (another_block n) (another_block n')
+    decoded_follows line line' false (Ok i) s n n' = carry_follows line line' i.block (measuring s i.measure) n n'
 
     -- what is left of a block once it may come
     block-decoded :
         (k : Judging) (d : Calls) (e : Frame) (line : ℕ) (l : List ℕ) (s : State) (n : Counts)
         → run_block k d e line l (progress s n)
-        ≡ ◌>>=◌ (need (may_come k l (progress s n)) 3 line) (λ _. decoded_block k d e line (is_counted l) (decode (reader_of e s) l) s n)
+        ≡ ◌>>=◌ (need (may_come k l (progress s n)) BlocksSpent line) (λ _. decoded_block k d e line (is_counted l) (decode (reader_of e s) l) s n)
     unfolding run_block begin
     block-decoded k d e line l s n =
-        >>=-assoc (need (may_come k l (progress s n)) 3 line) _ _
-        ∙ ap (◌>>=◌ (need (may_come k l (progress s n)) 3 line)) (fun_ext (λ _. >>=-assoc (in_line line (decode (reader_of e s) l)) _ _))
+        >>=-assoc (need (may_come k l (progress s n)) BlocksSpent line) _ _
+        ∙ ap (◌>>=◌ (need (may_come k l (progress s n)) BlocksSpent line)) (fun_ext (λ _. >>=-assoc (in_line line (decode (reader_of e s) l)) _ _))
 
     run_block_follows : (line line' : ℕ) (l : List ℕ) → run_block j c (moved m f) line l beside run_block free c' f line' l
     run_block_follows line line' l s n n' =
@@ -281,9 +275,9 @@ module _ {E : Type 0} (j : Judging) (bounds : Bool) (v : Motion) (places : ℕ) 
         go :
             (counted : Bool)
             → Follows E j v n n'
-            (◌>>=◌ (need (not counted || room j.blocks n.blocks) 3 line) (λ _. decoded_block j c (moved m f) line counted (decode reader l) (moved_state v.by s) n))
-            (◌>>=◌ (need (not counted || room none n'.blocks) 3 line') (λ _. decoded_block free c' f line' counted (decode reader l) s n'))
-        go true = follows_counted 3 line (decoded_follows line line' true (decode reader l) s n n')
+            (◌>>=◌ (need (not counted || room j.blocks n.blocks) BlocksSpent line) (λ _. decoded_block j c (moved m f) line counted (decode reader l) (moved_state v.by s) n))
+            (◌>>=◌ (need (not counted || room None n'.blocks) BlocksSpent line') (λ _. decoded_block free c' f line' counted (decode reader l) s n'))
+        go true = follows_counted BlocksSpent line (decoded_follows line line' true (decode reader l) s n n')
         go false = decoded_follows line line' false (decode reader l) s n n'
 
     run_line_follows : (line line' : ℕ) (l : List ℕ) → run_line j c (moved m f) line l beside run_line free c' f line' l
@@ -305,16 +299,16 @@ module _ {E : Type 0} (j : Judging) (bounds : Bool) (v : Motion) (places : ℕ) 
     called_follows :
         (o o' : Option Body) → bytes_of o ≡ bytes_of o' → (line line' : ℕ) (x y : Body → Progress → Out (Made Progress))
         → ((b b' : Body) → b.bytes ≡ b'.bytes → x b beside y b')
-        → (λ g. ◌>>=◌ (given o 10 line) (λ b. x b g)) beside (λ g. ◌>>=◌ (given o' 10 line') (λ b. y b g))
-    called_follows none none e line line' x y r s n n' = refusals
-    called_follows none (some b') e line line' x y r s n n' = let z : ◌≡◌ {A = ℕ} 0 1 = cc in absurd (omega arith)
-    called_follows (some b) none e line line' x y r s n n' = let z : ◌≡◌ {A = ℕ} 0 1 = cc in absurd (omega arith)
-    called_follows (some b) (some b') e line line' x y r s n n' = r b b' (let h : some b.bytes ≡ some b'.bytes = e in cc) s n n'
+        → (λ g. ◌>>=◌ (given o NotStored line) (λ b. x b g)) beside (λ g. ◌>>=◌ (given o' NotStored line') (λ b. y b g))
+    called_follows None None e line line' x y r s n n' = refusals
+    called_follows None (Some b') e line line' x y r s n n' = let z : ◌≡◌ {A = ℕ} 0 1 = cc in absurd (omega arith)
+    called_follows (Some b) None e line line' x y r s n n' = let z : ◌≡◌ {A = ℕ} 0 1 = cc in absurd (omega arith)
+    called_follows (Some b) (Some b') e line line' x y r s n n' = r b b' (let h : Some b.bytes ≡ Some b'.bytes = e in cc) s n n'
 
     pub call_follows : (d : ℕ) (f : Frame) (m : Mirror) → Sees v places f m → (k line line' : ℕ) → call j bodies d (moved m f) k line beside call free bodies' d f k line'
     unfolding call
     call_follows zero f m sees k line line' =
-        called_follows (bodies k) (bodies' k) (same k) line line' (λ b g. refused 11 line) (λ b g. refused 11 line') (λ b b' e s n n'. refusals)
+        called_follows (bodies k) (bodies' k) (same k) line line' (λ b g. refused TooDeep line) (λ b g. refused TooDeep line') (λ b b' e s n n'. refusals)
     call_follows (suc d) f m sees k line line' =
         called_follows (bodies k) (bodies' k) (same k) line line'
         (λ b g. run_lines j (call j bodies d) (moved m f) b.line (lines b.bytes) g)

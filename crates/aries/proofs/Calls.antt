@@ -1,20 +1,22 @@
 -- Laws of macros: how a block begins, the bodies that are stored, the part of a text that is one, and calls.
+use Rattle.std.specs.Prelude.{Err, None, Ok, Some}
 use mathlib.Core.Path.{◌≡◌, refl, sym, ap, ◌∙◌}
 use mathlib.Core.Bool.{Bool, true, false, cond}
 use mathlib.Core.List.{List}
-use mathlib.Core.Option.{none, some}
 use Prim.Native.Nat.{ℕ, zero, suc, ◌-◌, ◌<◌, ◌≤◌}
 use native.Mathlib.Omega.{arith}
 use borrow.Author.Tests.{ltb-true, ltb-false}
 use lib.Dec.{ltb}
 use lib.ListN.{length, take, drop, length-drop}
 use lib.Seq.{take_all}
+use Rattle.aries.specs.declared.refusal.Refusal.TheVariants.{BlocksSpent, NotStored, TooDeep}
 use Rattle.aries.specs.declared.block.Instruction.{Instruction}
+use Rattle.aries.specs.declared.refusal.Refusal.{Refusal}
 use Rattle.aries.specs.declared.macros.Macros.{Macros}
-use Rattle.aries.specs.declared.macros.Found.TheVariants as Found
+use Rattle.aries.specs.declared.macros.StoredBody.{StoredBody}
 use Rattle.aries.specs.declared.state.Frame.{Frame}
 use Rattle.aries.specs.declared.state.Progress.{Progress}
-use Rattle.aries.specs.Outcome.{done, refused, passes, fails}
+use Rattle.aries.specs.Outcome.{refused}
 use Rattle.aries.specs.Judging.{Judging}
 use Rattle.aries.specs.Reader.{reader_of}
 use Rattle.aries.specs.Blocks.{decode}
@@ -23,13 +25,13 @@ use Rattle.aries.specs.Macros.{Body, part, Bodies, body_at, bodies_of, found_in,
 -- ---- What is stored
 
 module _ (text : List ℕ) (m : Macros) (n : ℕ) where
-  pub body_missing : found_in m n ≡ Found.Nothing → bodies_of text m n ≡ none
+  pub body_missing : found_in m n ≡ None → bodies_of text m n ≡ None
   unfolding bodies_of
   body_missing e = ap (body_at text) e
 
-  pub body_found : (start end line : ℕ) → found_in m n ≡ Found.Body start end line → bodies_of text m n ≡ some (record { line = line; bytes = part text start end })
+  pub body_found : (b : StoredBody) → found_in m n ≡ Some b → bodies_of text m n ≡ Some (record { line = b.line; bytes = part text b.start b.end })
   unfolding bodies_of
-  body_found start end line e = ap (body_at text) e
+  body_found b e = ap (body_at text) e
 
 -- ---- The part of a text from one place to another
 
@@ -73,16 +75,16 @@ module _ (t : List ℕ) (start end : ℕ) where
 -- ---- Calls
 
 module _ (j : Judging) (bodies : Bodies) (f : Frame) (n line : ℕ) (g : Progress) where
-  pub call_missing : (d : ℕ) → bodies n ≡ none → call j bodies d f n line g ≡ refused 10 line
+  pub call_missing : (d : ℕ) → bodies n ≡ None → call j bodies d f n line g ≡ refused NotStored line
   unfolding call
   call_missing zero e = simp e
   call_missing (suc d) e = simp e
 
-  pub call_deep : (d : ℕ) (b : Body) → bodies n ≡ some b → d ≡ 0 → call j bodies d f n line g ≡ refused 11 line
+  pub call_deep : (d : ℕ) (b : Body) → bodies n ≡ Some b → d ≡ 0 → call j bodies d f n line g ≡ refused TooDeep line
   unfolding call
   call_deep d b e z = simp (z, e)
 
-  pub call_body : (d : ℕ) (b : Body) → bodies n ≡ some b → 0 < d → call j bodies d f n line g ≡ run_body j bodies (d - 1) f b g
+  pub call_body : (d : ℕ) (b : Body) → bodies n ≡ Some b → 0 < d → call j bodies d f n line g ≡ run_body j bodies (d - 1) f b g
   unfolding call run_body
   call_body zero b e h = absurd (omega arith)
   call_body (suc d) b e h = let k : suc d - 1 ≡ d = omega arith in rw k (simp e)
@@ -90,14 +92,14 @@ module _ (j : Judging) (bodies : Bodies) (f : Frame) (n line : ℕ) (g : Progres
 -- ---- A block begins
 
 module _ (j : Judging) (f : Frame) (line : ℕ) (l : List ℕ) (g : Progress) where
-  pub begin_spent : may_come j l g ≡ false → begin j f line l g ≡ refused 3 line
+  pub begin_spent : may_come j l g ≡ false → begin j f line l g ≡ refused BlocksSpent line
   unfolding begin
   begin_spent e = simp e
 
-  pub begin-refused : may_come j l g ≡ true → (number : ℕ) → decode (reader_of f g.state) l ≡ fails number → begin j f line l g ≡ refused number line
+  pub begin-refused : may_come j l g ≡ true → (refusal : Refusal) → decode (reader_of f g.state) l ≡ Err refusal → begin j f line l g ≡ refused refusal line
   unfolding begin
-  begin-refused e number d = simp (e, d)
+  begin-refused e refusal d = simp (e, d)
 
-  pub begin-done : may_come j l g ≡ true → (i : Instruction) → decode (reader_of f g.state) l ≡ passes i → begin j f line l g ≡ done (begun_by l g i)
+  pub begin-done : may_come j l g ≡ true → (i : Instruction) → decode (reader_of f g.state) l ≡ Ok i → begin j f line l g ≡ Ok (begun_by l g i)
   unfolding begin
   begin-done e i d = simp (e, d)

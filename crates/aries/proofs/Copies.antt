@@ -1,4 +1,5 @@
 -- All copies of a run, one after the other: their entries, and when none of them is refused.
+use Rattle.std.specs.Prelude.{Ok}
 use mathlib.Core.Path.{◌≡◌, refl, sym, ap, ap₂, ◌∙◌, subst}
 use mathlib.Core.Bool.{Bool, true, false}
 use mathlib.Core.List.{[], ◌++◌, map}
@@ -6,9 +7,10 @@ use Prim.Native.Nat.{ℕ, zero, suc, ◌+◌, ◌<◌, ◌≤◌}
 use native.Mathlib.Omega.{arith}
 use borrow.Author.Tests.{ltb-true, ltb-false}
 use lib.Dec.{ltb}
+use Rattle.aries.specs.declared.refusal.Refusal.TheVariants.{TooFar}
 use Rattle.aries.specs.declared.point.Point.{Point}
 use Rattle.aries.specs.declared.state.Progress.{Progress}
-use Rattle.aries.specs.Outcome.{Out, done}
+use Rattle.aries.specs.Outcome.{Out}
 use Rattle.aries.specs.Entries.{Made}
 use Rattle.aries.specs.Judging.{Judging, near, limits}
 use Rattle.aries.specs.Layouts.{copy, copy_all}
@@ -48,7 +50,7 @@ module _ (base : Circumstances) where
   pub record Own (n' : Counts) : Type 0 where
     pub result : Made Progress
     pub by : Counts
-    pub result_is : own_from base n' ≡ done result
+    pub result_is : own_from base n' ≡ Ok result
     pub up : Up n' (counts_of result.after) by
 
 -- ---- The copies of a run beside the own run of one with the same part
@@ -61,11 +63,11 @@ module _ (c base : Circumstances) (same : SamePart c base) where
     pub own : Followed (judging c) (translation p) n n' m (own_from base n')
     pub passes : Passes base p
 
-  copy_accepted : (p : Point) (g : Progress) (n' : Counts) (m : Made Progress) → copy_to c p g ≡ done m → Copied p (counts_of g) n' m
+  copy_accepted : (p : Point) (g : Progress) (n' : Counts) (m : Made Progress) → copy_to c p g ≡ Ok m → Copied p (counts_of g) n' m
   unfolding copy
   copy_accepted p g n' m e =
       let n = counts_of g in
-      let q = need_accepted (near p) 15 c.line (part_at c (judging c) p n) m e in
+      let q = need_accepted (near p) TooFar c.line (part_at c (judging c) p n) m e in
       let b = follows_accepted (part_at c (judging c) p n) (by_bounds base p) m q.1 (part-bounds c base same (judging c) p n nothing) in
       record {
         own = follows_accepted (part_at c (judging c) p n) (own_from base n') m q.1 (part_own c base same (judging c) p n n');
@@ -77,13 +79,13 @@ module _ (c base : Circumstances) (same : SamePart c base) where
   module _ (place : ℕ → Point) where
     -- the first copy and the others
     parted :
-        (k m : ℕ) (g : Progress) (r : Made Progress) → copies c place (suc k) m g ≡ done r → Both (copy_to c (place m) g) (copies c place k (suc m)) r
+        (k m : ℕ) (g : Progress) (r : Made Progress) → copies c place (suc k) m g ≡ Ok r → Both (copy_to c (place m) g) (copies c place k (suc m)) r
     unfolding copy_all
     parted k m g r e = then_accepted (copy_to c (place m) g) (copies c place k (suc m)) r e
 
     -- for each m in turn, the own entries moved to its place
     pub copies-entries :
-        (n' : Counts) (k m : ℕ) (g : Progress) (r : Made Progress) → copies c place k m g ≡ done r
+        (n' : Counts) (k m : ℕ) (g : Progress) (r : Made Progress) → copies c place k m g ≡ Ok r
         → r.entries ≡ joined (λ i. map (moved_by (place i)) (entries_of (own_from base n'))) k m
     unfolding copy_all joined
     copies-entries n' zero m g r e = sym (ap entries_of e)
@@ -95,7 +97,7 @@ module _ (c base : Circumstances) (same : SamePart c base) where
         (copies-entries n' k (suc m) t.first.after t.second t.second_is)
 
     -- where there are copies and they are accepted, so is the own run
-    pub copies_own : (n' : Counts) (k m : ℕ) (g : Progress) (r : Made Progress) → 0 < k → copies c place k m g ≡ done r → Own base n'
+    pub copies_own : (n' : Counts) (k m : ℕ) (g : Progress) (r : Made Progress) → 0 < k → copies c place k m g ≡ Ok r → Own base n'
     copies_own n' zero m g r p e = absurd (omega arith)
     copies_own n' (suc k) m g r p e =
         let t = parted k m g r e in
@@ -123,7 +125,7 @@ module _ (c base : Circumstances) (same : SamePart c base) where
         (subst (Up n (counts_of m.after)) e x.own.together.up, subst (Fit (judging c) n) e x.own.together.fit)
 
     pub copies_accepted :
-        (place : ℕ → Point) (k m : ℕ) (g : Progress) (r : Made Progress) → copies c place k m g ≡ done r → AllPass place k m (counts_of g)
+        (place : ℕ → Point) (k m : ℕ) (g : Progress) (r : Made Progress) → copies c place k m g ≡ Ok r → AllPass place k m (counts_of g)
     copies_accepted place zero m g r e = record { passing = λ i p q. absurd (omega arith); fit = fit_nothing (omega arith) (omega arith) }
     copies_accepted place (suc k) m g r e =
         let t = parted place k m g r e in

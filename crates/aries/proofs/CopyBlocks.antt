@@ -1,21 +1,23 @@
 -- A G75 or G76 block of a program is a run; wherever a program comes, the origin is reference plus offset, since only G93 and
 -- G98 set reference, offset or origin, and they set it so.
+use Rattle.std.specs.Prelude.{Ok, Option}
 use mathlib.Core.Path.{◌≡◌, refl, sym, ap, ap₂, ◌∙◌}
 use mathlib.Core.Bool.{true, false}
 use mathlib.Core.List.{List, [], ◌∷◌}
 use Prim.Native.Nat.{ℕ}
 use native.Mathlib.Omega.{arith}
+use Rattle.aries.specs.declared.block.Layout.{Layout}
+use Rattle.aries.specs.declared.refusal.Refusal.TheVariants.{OutOfPlace}
 use Rattle.aries.specs.declared.block.Block.{Block}
 use Rattle.aries.specs.declared.block.Instruction.{Instruction}
 use Rattle.aries.specs.declared.job.Job.{Job}
 use Rattle.aries.specs.declared.point.Point.{Point}
 use Rattle.aries.specs.declared.reader.Reader.{Reader}
-use Rattle.aries.specs.declared.setup.Sheet.{Sheet}
 use Rattle.aries.specs.declared.setup.Setup.{Setup}
 use Rattle.aries.specs.declared.setup.Stage.{Stage}
 use Rattle.aries.specs.declared.setup.Program.{Program}
 use Rattle.aries.specs.declared.state.Progress.{Progress}
-use Rattle.aries.specs.Outcome.{Out, ◌>>=◌, need, passes}
+use Rattle.aries.specs.Outcome.{Out, ◌>>=◌, need}
 use Rattle.aries.specs.Entries.{Made}
 use Rattle.aries.specs.Judging.{Judging, limits}
 use Rattle.aries.specs.Reader.{reader_of}
@@ -31,7 +33,7 @@ use Rattle.aries.proofs.Calls.{begin-done}
 use Rattle.aries.proofs.Kept.{run_line_outside_keeps}
 
 -- a line that decodes is not blank
-pub not_blank : (r : Reader) (i : Instruction) → decode r [] ≡ passes i → ⊥
+pub not_blank : (r : Reader) (i : Instruction) → decode r [] ≡ Ok i → ⊥
 unfolding decode
 not_blank r i e = let z : ◌≡◌ {A = ℕ} 0 1 = cc in omega arith
 
@@ -41,7 +43,7 @@ copy-lines_run text after line [] ls p i k running may e b = absurd (not_blank (
 copy-lines_run text after line (c ∷ l) ls p i k running may e b =
     ap (λ (t : Stage). elim (is_storing t) as (λ _. Out (Made Program)) [ true ↦ pass_over (c ∷ l) p | false ↦ run_block_outside j text after line (c ∷ l) ls p ]) running
     ∙ ap (λ (x : Out Begun). ◌>>=◌ x goes_on) (begin-done j (ordinary_frame p.setup) line (c ∷ l) p.progress may i e)
-    ∙ ap₂ (λ (t : Stage) (d : Block). ◌>>=◌ (need (in_place t d) 7 line) (λ _. carry_out j text after line ls d (with_progress p began))) running b
+    ∙ ap₂ (λ (t : Stage) (d : Block). ◌>>=◌ (need (in_place t d) OutOfPlace line) (λ _. carry_out j text after line ls d (with_progress p began))) running b
   where
     j : Judging
     j = limits p.setup.job
@@ -51,7 +53,7 @@ copy-lines_run text after line (c ∷ l) ls p i k running may e b =
 
     goes_on : Begun → Out (Made Program)
     goes_on x = do
-      _ ← need (in_place p.stage x.block) 7 line
+      _ ← need (in_place p.stage x.block) OutOfPlace line
       carry_out j text after line ls x.block (with_progress p x.progress)
 
 -- the origin is as it should be, and the job is the caller's
@@ -68,6 +70,6 @@ reached_ordinary job text at line ls p r = reached-held job text at line ls p r
 
 pub origin_moves : OriginMoves
 origin_moves v s t l e m o ordinary ordinary' =
-    ap (λ (p : Point). p ⊕ v) (ordinary ∙ ap (λ (x : Sheet). reference_of x ⊕ s.offset) e)
+    ap (λ (p : Point). p ⊕ v) (ordinary ∙ ap (λ (x : Option Layout). reference_of x ⊕ s.offset) e)
     ∙ ⊕-swap l.reference s.offset v
-    ∙ sym (ordinary' ∙ ap₂ (λ (x : Sheet) (q : Point). reference_of x ⊕ q) (sym m ∙ ap (moved_sheet v) e) (sym o))
+    ∙ sym (ordinary' ∙ ap₂ (λ (x : Option Layout) (q : Point). reference_of x ⊕ q) (sym m ∙ ap (moved_sheet v) e) (sym o))

@@ -1,4 +1,5 @@
 -- A pair of programs that demand 3 compares, by computation.
+use Rattle.std.specs.Prelude.{Ok, Some, None}
 use mathlib.Core.Path.{◌≡◌, refl, sym, ap, ◌∙◌, subst}
 use mathlib.Core.Bool.{Bool, true, false}
 use mathlib.Core.List.{List, [], ◌∷◌}
@@ -10,18 +11,15 @@ use Rattle.aries.specs.declared.block.Copies.{Copies}
 use Rattle.aries.specs.declared.block.Layout.{Layout}
 use Rattle.aries.specs.declared.block.Outside.TheVariants.{Copy}
 use Rattle.aries.specs.declared.block.Block.TheVariants.{Outside}
-use Rattle.aries.specs.declared.block.Measure.TheVariants.{Unchanged}
 use Rattle.aries.specs.declared.block.Instruction.{Instruction}
 use Rattle.aries.specs.declared.machine.Machine.TheVariants.{Aries222}
 use Rattle.aries.specs.declared.macros.Macros.{Macros}
 use Rattle.aries.specs.declared.reader.Setting.TheVariants.{Hundredths}
 use Rattle.aries.specs.declared.setup.Program.{Program}
 use Rattle.aries.specs.declared.setup.Setup.{Setup}
-use Rattle.aries.specs.declared.setup.Sheet.TheVariants.{LaidOut}
 use Rattle.aries.specs.declared.setup.Stage.{Stage}
 use Rattle.aries.specs.declared.setup.Stage.TheVariants.{Running, Storing}
 use Rattle.aries.specs.Text.{bytes, lines}
-use Rattle.aries.specs.Outcome.{passes}
 use Rattle.aries.specs.Reader.{reader_at}
 use Rattle.aries.specs.Blocks.{decode}
 use Rattle.aries.specs.Moves.{point_at, zero_point, moved_to, fresh_state}
@@ -32,7 +30,7 @@ use Rattle.aries.specs.CopyRuns.{Circumstances, bytes_of}
 use Rattle.aries.specs.CopyBlocks.{circumstances, Reached, start, next}
 use Rattle.aries.specs.CopyPairs.{ComesTo, sheet_by, job, PairAlike}
 use Rattle.aries.proofs.Calls.{body_missing}
-use Rattle.aries.proofs.Storage.{zeros, found_other}
+use Rattle.aries.proofs.Storage.{found_fresh, found_other}
 
 -- ---- What the five lines before the block leave
 
@@ -44,11 +42,11 @@ abbrev bare : Setup
 bare = with_machine (fresh_setup job) Aries222
 
 abbrev laid : Setup
-laid = with_origin bare (LaidOut sheet) zero_point
+laid = with_origin bare (Some sheet) zero_point
 
 -- the part, nine characters in line 4
 abbrev stored : Macros
-stored = storing no_macros 60 38 47 4
+stored = storing no_macros 60 (record { start = 38; end = 47; line = 4 })
 
 -- so many blocks carried out, and no entry
 abbrev program : Stage → Setup → Macros → ℕ → Program
@@ -78,13 +76,13 @@ abbrev finds : List ℕ → Bool → Circumstances
 finds text vertical = circumstances text 6 (copies_by vertical) (program Running laid stored 4)
 
 abbrev instruction_by : Bool → Instruction
-instruction_by vertical = record { measure = Unchanged; block = Outside (Copy (copies_by vertical)) }
+instruction_by vertical = record { measure = None; block = Outside (Copy (copies_by vertical)) }
 
 -- a text whose sixth line is such a block comes to it
 comes_to :
     (text block : List ℕ) (vertical : Bool)
     → lines text ≡ bytes "G92X600.Y600." ∷ bytes "G98X0Y0I10.J10.P1K1" ∷ bytes "U60" ∷ bytes "X1.Y1.T2" ∷ bytes "V60" ∷ block ∷ bytes "G50" ∷ []
-    → decode (reader_at Hundredths fresh_state.given) block ≡ passes (instruction_by vertical) → is_counted block ≡ true → ComesTo job text vertical (finds text vertical)
+    → decode (reader_at Hundredths fresh_state.given) block ≡ Ok (instruction_by vertical) → is_counted block ≡ true → ComesTo job text vertical (finds text vertical)
 comes_to text block vertical e d k =
     record {
       at = 51;
@@ -117,7 +115,7 @@ same-bodies n = go (eqb n 60) refl
     go : (t : Bool) → eqb n 60 ≡ t → bytes_of (bodies_of (sheet_by "G75") stored n) ≡ bytes_of (bodies_of (sheet_by "G76") stored n)
     go true e = subst (λ (k : ℕ). bytes_of (bodies_of (sheet_by "G75") stored k) ≡ bytes_of (bodies_of (sheet_by "G76") stored k)) (sym (eqb-true n 60 e)) refl
     go false e =
-        let none-there = found_other no_macros 60 n 38 47 4 (eqb-false n 60 e) (zeros 90 n) in
+        let none-there = found_other no_macros 60 n (record { start = 38; end = 47; line = 4 }) (eqb-false n 60 e) (found_fresh n) in
         ap bytes_of (body_missing (sheet_by "G75") stored n none-there) ∙ sym (ap bytes_of (body_missing (sheet_by "G76") stored n none-there))
 
 pub pair_alike : PairAlike

@@ -1,7 +1,7 @@
 -- Counts of blocks and entries: how far they go up, and whether what is added fits under the limits.
+use Rattle.std.specs.Prelude.{Option, Some}
 use mathlib.Core.Path.{◌≡◌, refl, ap₂, subst}
 use mathlib.Core.Bool.{Bool, true, false}
-use mathlib.Core.Option.{Option, some}
 use Prim.Native.Nat.{ℕ, suc, ◌+◌, ◌*◌, ◌-◌, ◌<◌, ◌≤◌}
 use native.Mathlib.Omega.{arith}
 use borrow.Author.Tests.{lt-ltb, ltb-true, ltb-false}
@@ -128,7 +128,7 @@ fits-joined most count a b later e f g = record { fits = λ i h. go i h (ltb i a
 
 -- with as many free, as many fit
 pub fits-free :
-    (most most' count count' more : ℕ) → most - count ≡ most' - count' → Fits (some most) count more → Fits (some most') count' more
+    (most most' count count' more : ℕ) → most - count ≡ most' - count' → Fits (Some most) count more → Fits (Some most') count' more
 fits-free most most' count count' more e f =
     record { fits = λ i h. lt-ltb (count' + i) most' (let l = ltb-true (count + i) most (f.fits i h) in omega arith) }
 

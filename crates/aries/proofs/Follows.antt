@@ -1,18 +1,19 @@
 -- One thing carried out twice: y without limits on blocks and places, and x where more may be judged, from a state moved by
 -- a vector and in other mirrors, whatever was counted before. The relation, and what it comes to where things are carried out one
 -- after the other.
+use Rattle.std.specs.Prelude.{Ok, None, Option, Some, Err}
 use mathlib.Core.Path.{◌≡◌, refl, sym, ◌∙◌, subst}
 use mathlib.Core.Bool.{Bool, true, false, true≢false}
 use mathlib.Core.List.{List, [], ◌∷◌, ◌++◌, map, map-append}
 use Prim.Native.Nat.{ℕ}
+use Rattle.aries.specs.declared.refusal.Refused.{Refused}
+use Rattle.aries.specs.declared.refusal.Refusal.{Refusal}
 use Rattle.aries.specs.declared.point.Point.{Point}
-use Rattle.aries.specs.declared.state.Waiting.{Waiting}
-use Rattle.aries.specs.declared.state.Waiting.TheVariants.{Unset, At}
 use Rattle.aries.specs.declared.state.State.{State}
 use Rattle.aries.specs.declared.mirror.Mirror.{Mirror}
 use Rattle.aries.specs.declared.state.Frame.{Frame}
 use Rattle.aries.specs.declared.state.Progress.{Progress}
-use Rattle.aries.specs.Outcome.{Out, done, refused, ◌>>=◌, need}
+use Rattle.aries.specs.Outcome.{Out, ◌>>=◌, need}
 use Rattle.aries.specs.declared.entry.Entry.{Entry}
 use Rattle.aries.specs.Entries.{placed_by, Made, no_entry, adding, and_then, map_after}
 use Rattle.aries.specs.Judging.{Judging, room}
@@ -22,16 +23,16 @@ use Rattle.aries.proofs.Counts.{Counts, counts_of, nothing, ◌⊞◌, another_b
 
 -- ---- Moved by a vector
 
-abbrev pub moved_waiting : Point → Waiting → Waiting
-moved_waiting v Unset = Unset
-moved_waiting v (At p) = At (p ⊕ v)
+abbrev pub moved_waiting : Point → Option Point → Option Point
+moved_waiting v None = None
+moved_waiting v (Some p) = Some (p ⊕ v)
 
 -- current point and waiting origin, nothing else
 abbrev pub moved_state : Point → State → State
 moved_state v s =
     record {
       current = s.current ⊕ v;
-      waiting = record { origin = moved_waiting v s.waiting.origin };
+      waiting = moved_waiting v s.waiting;
       incremental = s.incremental;
       nibble = s.nibble;
       tool = s.tool;
@@ -76,13 +77,13 @@ pub data Looser (E : Type 0) : Bool → Bool → Type 0 where
 -- Both are refused; or both are accepted, x with entries and state moved and both with counts that go up by as many; or x
 -- alone is refused, though where E holds only when what is counted does not fit. The counts before were n and n'.
 pub data Follows (E : Type 0) (j : Judging) (v : Motion) (n n' : Counts) : Out (Made Progress) → Out (Made Progress) → Type 0 where
-  refusals : {number line number' line' : ℕ} → Follows E j v n n' (refused number line) (refused number' line')
+  refusals : {e e' : Refused} → Follows E j v n n' (Err e) (Err e')
   moves :
       {es : List Entry} {s : State} {m m' : Counts} (d : Counts) → Up n m d → Up n' m' d → Fit j n d
-      → Follows E j v n n' (done (made (map (placed_by v.to) es) (moved_state v.by s) m)) (done (made es s m'))
+      → Follows E j v n n' (Ok (made (map (placed_by v.to) es) (moved_state v.by s) m)) (Ok (made es s m'))
   ends :
-      {number line : ℕ} {es : List Entry} {s : State} {m' : Counts} (d : Counts) → Up n' m' d → (E → Fit j n d → ⊥)
-      → Follows E j v n n' (refused number line) (done (made es s m'))
+      {e : Refused} {es : List Entry} {s : State} {m' : Counts} (d : Counts) → Up n' m' d → (E → Fit j n d → ⊥)
+      → Follows E j v n n' (Err e) (Ok (made es s m'))
 
 -- x follows y from every state, moved for x, and whatever was counted
 abbrev pub Beside : Type 0 → Judging → Motion → (Progress → Out (Made Progress)) → (Progress → Out (Made Progress)) → Type 0
@@ -95,18 +96,18 @@ module _ {E : Type 0} {j : Judging} {v : Motion} where
 
   -- where x is refused, it need only be said why
   follows_refused :
-      {n n' : Counts} {x y : Out (Made Progress)} (number line : ℕ) → (E → ⊥) → Follows E j v n n' x y → Follows E j v n n' (refused number line) y
-  follows_refused number line why refusals = refusals
-  follows_refused number line why (moves d u u' f) = ends d u' (λ e _. why e)
-  follows_refused number line why (ends d u' f) = ends d u' f
+      {n n' : Counts} {x y : Out (Made Progress)} (e : Refused) → (E → ⊥) → Follows E j v n n' x y → Follows E j v n n' (Err e) y
+  follows_refused e why refusals = refusals
+  follows_refused e why (moves d u u' f) = ends d u' (λ i _. why i)
+  follows_refused e why (ends d u' f) = ends d u' f
 
   -- past a test
   pub follows_need :
-      {n n' : Counts} {x y : Out (Made Progress)} {t t' : Bool} (number line line' : ℕ) → Looser E t t' → Follows E j v n n' x y
-      → Follows E j v n n' (◌>>=◌ (need t number line) (λ _. x)) (◌>>=◌ (need t' number line') (λ _. y))
-  follows_need number line line' (alike {t = true}) r = r
-  follows_need number line line' (alike {t = false}) r = refusals
-  follows_need number line line' (dropped e) r = follows_refused number line e r
+      {n n' : Counts} {x y : Out (Made Progress)} {t t' : Bool} (refusal : Refusal) (line line' : ℕ) → Looser E t t' → Follows E j v n n' x y
+      → Follows E j v n n' (◌>>=◌ (need t refusal line) (λ _. x)) (◌>>=◌ (need t' refusal line') (λ _. y))
+  follows_need refusal line line' (alike {t = true}) r = r
+  follows_need refusal line line' (alike {t = false}) r = refusals
+  follows_need refusal line line' (dropped e) r = follows_refused (record { refusal = refusal; line = line }) e r
 
   -- entries, and then what is made
   follows_adding :
@@ -114,15 +115,15 @@ module _ {E : Type 0} {j : Judging} {v : Motion} where
       → Follows E j v m m' x y → Follows E j v n n' (adding (map (placed_by v.to) es) x) (adding es y)
   follows_adding es d u u' f refusals = refusals
   follows_adding {n} {n'} es d u u' f (moves {es = fs} {s} {m = k} {m' = k'} e w w' g) =
-      subst (λ (l : List Entry). Follows E j v n n' (done (made l (moved_state v.by s) k)) (done (made (es ++ fs) s k'))) (map-append (placed_by v.to) es fs)
+      subst (λ (l : List Entry). Follows E j v n n' (Ok (made l (moved_state v.by s) k)) (Ok (made (es ++ fs) s k'))) (map-append (placed_by v.to) es fs)
       (moves {es = es ++ fs} {s = s} {m = k} {m' = k'} (d ⊞ e) (up_joined u w) (up_joined u' w') (fit_joined d e u f g))
   follows_adding es d u u' f (ends {es = fs} {s} {m' = k'} e w' g) =
       ends {es = es ++ fs} {s = s} {m' = k'} (d ⊞ e) (up_joined u' w') (λ i a. g i (fit_back d e u a))
 
   -- where x has ended, y goes on alone
   follows_alone :
-      {n n' m m' : Counts} {number line : ℕ} {x y : Out (Made Progress)} (es : List Entry) (d : Counts) → Up n' m' d → (E → Fit j n d → ⊥)
-      → Follows E j v m m' x y → Follows E j v n n' (refused number line) (adding es y)
+      {n n' m m' : Counts} {e : Refused} {x y : Out (Made Progress)} (es : List Entry) (d : Counts) → Up n' m' d → (E → Fit j n d → ⊥)
+      → Follows E j v m m' x y → Follows E j v n n' (Err e) (adding es y)
   follows_alone es d u' f refusals = refusals
   follows_alone es d u' f (moves {es = fs} {s} {m' = k'} e w w' g) =
       ends {es = es ++ fs} {s = s} {m' = k'} (d ⊞ e) (up_joined u' w') (λ i a. f i (fit_front d e a))
@@ -143,18 +144,18 @@ module _ {E : Type 0} {j : Judging} {v : Motion} where
       → Follows E j v n n' (map_after (λ p. progress (f p.state) (counts_of p)) x) (map_after (λ p. progress (g p.state) (counts_of p)) y)
   follows_map f g refusals r = refusals
   follows_map {n} {n'} f g (moves {es} {s} {m} {m'} d u u' k) r =
-      subst (λ (t : State). Follows E j v n n' (done (made (map (placed_by v.to) es) t m)) (done (made es (g s) m'))) (sym (r s)) (moves d u u' k)
+      subst (λ (t : State). Follows E j v n n' (Ok (made (map (placed_by v.to) es) t m)) (Ok (made es (g s) m'))) (sym (r s)) (moves d u u' k)
   follows_map f g (ends d u' k) r = ends d u' k
 
   -- a block begins, if there is room: one more is counted
   pub follows_counted :
-      {n n' : Counts} {x y : Out (Made Progress)} (number line : ℕ) → Follows E j v (another_block n) (another_block n') x y
-      → Follows E j v n n' (◌>>=◌ (need (room j.blocks n.blocks) number line) (λ _. x)) y
-  follows_counted {n} {n'} number line r = go (room j.blocks n.blocks) refl r
+      {n n' : Counts} {x y : Out (Made Progress)} (refusal : Refusal) (line : ℕ) → Follows E j v (another_block n) (another_block n') x y
+      → Follows E j v n n' (◌>>=◌ (need (room j.blocks n.blocks) refusal line) (λ _. x)) y
+  follows_counted {n} {n'} refusal line r = go (room j.blocks n.blocks) refl r
     where
       go :
           (t : Bool) → room j.blocks n.blocks ≡ t → {x y : Out (Made Progress)} → Follows E j v (another_block n) (another_block n') x y
-          → Follows E j v n n' (◌>>=◌ (need t number line) (λ _. x)) y
+          → Follows E j v n n' (◌>>=◌ (need t refusal line) (λ _. x)) y
       go true e refusals = refusals
       go true e (moves d u u' f) =
           moves (one_block ⊞ d) (up_joined (up_block n) u) (up_joined (up_block n') u') (fit_joined one_block d (up_block n) (fit_block e) f)
@@ -165,17 +166,17 @@ module _ {E : Type 0} {j : Judging} {v : Motion} where
 
   -- an entry, if there is room: one more is counted
   pub follows_entry :
-      (number line : ℕ) (e : Entry) (s : State) (n n' : Counts)
+      (refusal : Refusal) (line : ℕ) (e : Entry) (s : State) (n n' : Counts)
       → Follows E j v n n'
-      (◌>>=◌ (need (room j.places n.entries) number line) (λ _. done (made (placed_by v.to e ∷ []) (moved_state v.by s) (another_entry n))))
-      (done (made (e ∷ []) s (another_entry n')))
-  follows_entry number line e s n n' = go (room j.places n.entries) refl
+      (◌>>=◌ (need (room j.places n.entries) refusal line) (λ _. Ok (made (placed_by v.to e ∷ []) (moved_state v.by s) (another_entry n))))
+      (Ok (made (e ∷ []) s (another_entry n')))
+  follows_entry refusal line e s n n' = go (room j.places n.entries) refl
     where
       go :
           (t : Bool) → room j.places n.entries ≡ t
           → Follows E j v n n'
-          (◌>>=◌ (need t number line) (λ _. done (made (placed_by v.to e ∷ []) (moved_state v.by s) (another_entry n))))
-          (done (made (e ∷ []) s (another_entry n')))
+          (◌>>=◌ (need t refusal line) (λ _. Ok (made (placed_by v.to e ∷ []) (moved_state v.by s) (another_entry n))))
+          (Ok (made (e ∷ []) s (another_entry n')))
       go true h = moves {es = e ∷ []} {s = s} {m = another_entry n} {m' = another_entry n'} one_entry (up_entry n) (up_entry n') (fit_entry h)
       go false h = ends {es = e ∷ []} {s = s} {m' = another_entry n'} one_entry (up_entry n') (λ i a. true≢false (sym (entry_fits a) ∙ h))
 
@@ -193,24 +194,24 @@ pub record Together (j : Judging) (v : Motion) (n n' : Counts) (m m' : Made Prog
 pub record Followed (j : Judging) (v : Motion) (n n' : Counts) (m : Made Progress) (y : Out (Made Progress)) : Type 0 where
   pub other : Made Progress
   pub by : Counts
-  pub other_is : y ≡ done other
+  pub other_is : y ≡ Ok other
   pub together : Together j v n n' m other by
 
 module _ {E : Type 0} {j : Judging} {v : Motion} {n n' : Counts} where
-  pub follows_accepted : (x y : Out (Made Progress)) (m : Made Progress) → x ≡ done m → Follows E j v n n' x y → Followed j v n n' m y
+  pub follows_accepted : (x y : Out (Made Progress)) (m : Made Progress) → x ≡ Ok m → Follows E j v n n' x y → Followed j v n n' m y
   follows_accepted x y m e r = go m y (subst (λ (x : Out (Made Progress)). Follows E j v n n' x y) e r)
     where
-      go : (m : Made Progress) (y : Out (Made Progress)) → Follows E j v n n' (done m) y → Followed j v n n' m y
+      go : (m : Made Progress) (y : Out (Made Progress)) → Follows E j v n n' (Ok m) y → Followed j v n n' m y
       go m y (moves {es} {s} {m'} d u u' f) = record { other = made es s m'; by = d; other_is = refl; together = record { moved = refl; state = refl; up = u; up' = u'; fit = f } }
 
   -- where E holds, what fits is accepted
   pub follows_fitting :
-      (x y : Out (Made Progress)) (m' : Made Progress) → y ≡ done m' → Follows E j v n n' x y → E
-      → ((d : Counts) → Up n' (counts_of m'.after) d → Fit j n d) → (m : Made Progress) × (x ≡ done m)
+      (x y : Out (Made Progress)) (m' : Made Progress) → y ≡ Ok m' → Follows E j v n n' x y → E
+      → ((d : Counts) → Up n' (counts_of m'.after) d → Fit j n d) → (m : Made Progress) × (x ≡ Ok m)
   follows_fitting x y m' e r i fit = go x m' (subst (λ (y : Out (Made Progress)). Follows E j v n n' x y) e r) fit
     where
       go :
-          (x : Out (Made Progress)) (m' : Made Progress) → Follows E j v n n' x (done m') → ((d : Counts) → Up n' (counts_of m'.after) d → Fit j n d)
-          → (m : Made Progress) × (x ≡ done m)
+          (x : Out (Made Progress)) (m' : Made Progress) → Follows E j v n n' x (Ok m') → ((d : Counts) → Up n' (counts_of m'.after) d → Fit j n d)
+          → (m : Made Progress) × (x ≡ Ok m)
       go x m' (moves {es} {s} {m} d u u' f) fit = (made (map (placed_by v.to) es) (moved_state v.by s) m, refl)
       go x m' (ends d u' f) fit = absurd (f i (fit d u'))

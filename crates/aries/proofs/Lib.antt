@@ -44,7 +44,6 @@ pub mod Mirrors
 pub mod Steady
 pub mod Given
 pub mod Calls
-pub mod Named
 pub mod Runs
 pub mod Tally
 pub mod Tallied
@@ -52,3 +51,4 @@ pub mod OneTool
 pub mod Storage
 pub mod Tags
 pub mod WidePoints
+mod Marks

@@ -1,8 +1,8 @@
 -- Laws of how many lines a text has, and of where a line stands.
+use Rattle.std.specs.Prelude.{Option, Some}
 use mathlib.Core.Path.{◌≡◌, refl, ap, ◌∙◌}
 use mathlib.Core.Bool.{Bool, true, false}
 use mathlib.Core.List.{List, [], ◌∷◌}
-use mathlib.Core.Option.{Option, some}
 use Prim.Native.Nat.{ℕ, zero, suc, ◌+◌, ◌≤◌, ◌<◌}
 use native.Mathlib.Omega.{arith}
 use native.Mathlib.Numerals.{add-one}
@@ -99,16 +99,16 @@ lines_next (b ∷ bs) l ls e = go (eqb b line_feed) (lines bs) refl e (lines_nex
         rw (← l-is, add-one) (rw add-one at (rest k ks p) ∙ ls-is)
 
 -- the line of a stray byte is one of those that begin with the first
-pub stray_inside : (t : List ℕ) (first line : ℕ) → stray_line first t ≡ some line → (first ≤ line) × (line < first + length (lines t))
+pub stray_inside : (t : List ℕ) (first line : ℕ) → stray_line first t ≡ Some line → (first ≤ line) × (line < first + length (lines t))
 unfolding stray_line lines
 stray_inside [] first line e = let z : ◌≡◌ {A = ℕ} 0 1 = cc in absurd (omega arith)
 stray_inside (b ∷ bs) first line e = go (is_allowed b) (eqb b line_feed) e (λ n. stray_inside bs n line)
   where
     go :
         (p q : Bool)
-        → elim p as (λ _. Option ℕ) [ false ↦ some first | true ↦ elim q as (λ _. Option ℕ) [ true ↦ stray_line (suc first) bs | false ↦ stray_line first bs ] ]
-        ≡ some line
-        → ((n : ℕ) → stray_line n bs ≡ some line → (n ≤ line) × (line < n + length (lines bs)))
+        → elim p as (λ _. Option ℕ) [ false ↦ Some first | true ↦ elim q as (λ _. Option ℕ) [ true ↦ stray_line (suc first) bs | false ↦ stray_line first bs ] ]
+        ≡ Some line
+        → ((n : ℕ) → stray_line n bs ≡ Some line → (n ≤ line) × (line < n + length (lines bs)))
         → (first ≤ line) × (line < first + length (before q b (lines bs)))
     go false q e rest =
         let h : first ≡ line = cc in

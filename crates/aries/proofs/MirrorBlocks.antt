@@ -1,8 +1,10 @@
 -- A G73 block of a program is a run, in a body and outside bodies.
+use Rattle.std.specs.Prelude.{Ok}
 use mathlib.Core.Path.{◌≡◌, ap, ap₂, ◌∙◌}
 use mathlib.Core.Bool.{true, false}
 use mathlib.Core.List.{List, [], ◌∷◌}
 use Prim.Native.Nat.{ℕ}
+use Rattle.aries.specs.declared.refusal.Refusal.TheVariants.{OutOfPlace}
 use Rattle.aries.specs.declared.block.Mirroring.{Mirroring}
 use Rattle.aries.specs.declared.block.Call.TheVariants.{Mirrored}
 use Rattle.aries.specs.declared.block.Block.{Block}
@@ -13,7 +15,7 @@ use Rattle.aries.specs.declared.setup.Stage.TheVariants.{Running}
 use Rattle.aries.specs.declared.setup.Program.{Program}
 use Rattle.aries.specs.declared.state.Frame.{Frame}
 use Rattle.aries.specs.declared.state.Progress.{Progress}
-use Rattle.aries.specs.Outcome.{Out, ◌>>=◌, need, passes}
+use Rattle.aries.specs.Outcome.{Out, ◌>>=◌, need}
 use Rattle.aries.specs.Entries.{Made, map_after}
 use Rattle.aries.specs.Judging.{Judging, limits}
 use Rattle.aries.specs.Blocks.{decode}
@@ -28,7 +30,7 @@ use Rattle.aries.proofs.CopyBlocks.{not_blank}
 
 inside :
     (bodies : Bodies) (d : ℕ) (f : Frame) (line : ℕ) (l : List ℕ) (g : Progress) (i : Instruction) (m : Mirroring)
-    → may_come (limits f.job) l g ≡ true → decode (reader_of f g.state) l ≡ passes i → i.block ≡ Call (Mirrored m)
+    → may_come (limits f.job) l g ≡ true → decode (reader_of f g.state) l ≡ Ok i → i.block ≡ Call (Mirrored m)
     → run_line (limits f.job) (call (limits f.job) bodies d) f line l g
     ≡ run_by m.way (mirror_run bodies d f line m (begun (is_counted l) i.measure g))
 unfolding run_block carry run_by
@@ -46,7 +48,7 @@ inside bodies d f line (c ∷ l) g i m may e b =
 outside :
     (text : List ℕ) (next line : ℕ) (l : List ℕ) (ls : List (List ℕ)) (p : Program) (i : Instruction) (m : Mirroring)
     → p.stage ≡ Running → may_come (limits p.setup.job) l p.progress ≡ true
-    → decode (reader_of (ordinary_frame p.setup) p.progress.state) l ≡ passes i → i.block ≡ Call (Mirrored m)
+    → decode (reader_of (ordinary_frame p.setup) p.progress.state) l ≡ Ok i → i.block ≡ Call (Mirrored m)
     → run_line_outside (limits p.setup.job) text next line l ls p
     ≡ map_after (with_progress p)
     (run_by m.way (mirror_run (bodies_of text p.macros) most_calls (ordinary_frame p.setup) line m (begun (is_counted l) i.measure p.progress)))
@@ -55,7 +57,7 @@ outside text next line [] ls p i m running may e b = absurd (not_blank (reader_o
 outside text next line (c ∷ l) ls p i m running may e b =
     ap (λ (t : Stage). elim (is_storing t) as (λ _. Out (Made Program)) [ true ↦ pass_over (c ∷ l) p | false ↦ run_block_outside j text next line (c ∷ l) ls p ]) running
     ∙ ap (λ (x : Out Begun). ◌>>=◌ x goes_on) (begin-done j (ordinary_frame p.setup) line (c ∷ l) p.progress may i e)
-    ∙ ap₂ (λ (t : Stage) (k : Block). ◌>>=◌ (need (in_place t k) 7 line) (λ _. carry_out j text next line ls k (with_progress p began))) running b
+    ∙ ap₂ (λ (t : Stage) (k : Block). ◌>>=◌ (need (in_place t k) OutOfPlace line) (λ _. carry_out j text next line ls k (with_progress p began))) running b
   where
     j : Judging
     j = limits p.setup.job
@@ -65,7 +67,7 @@ outside text next line (c ∷ l) ls p i m running may e b =
 
     goes_on : Begun → Out (Made Program)
     goes_on x = do
-      _ ← need (in_place p.stage x.block) 7 line
+      _ ← need (in_place p.stage x.block) OutOfPlace line
       carry_out j text next line ls x.block (with_progress p x.progress)
 
 pub mirror_lines_run : MirrorLinesRun

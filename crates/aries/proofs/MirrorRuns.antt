@@ -1,5 +1,6 @@
 -- Mirrors with one a and b make each other's frames, and a macro run by a Q is the one run by Q1 with its hits turned: both follow
 -- what is carried out without limits by Q1 (`BodyRuns`).
+use Rattle.std.specs.Prelude.{Err, Ok, None, Option, Some}
 use mathlib.Core.Path.{◌≡◌, refl, sym, ap, ap₂, ◌∙◌, subst}
 use mathlib.Core.Bool.{Bool, true, false, cond}
 use mathlib.Core.List.{List, [], ◌∷◌, map}
@@ -14,9 +15,7 @@ use Rattle.aries.specs.declared.mirror.Mirror.{Mirror}
 use Rattle.aries.specs.declared.state.Frame.{Frame}
 use Rattle.aries.specs.declared.state.Progress.{Progress}
 use Rattle.aries.specs.declared.state.State.{State}
-use Rattle.aries.specs.declared.state.Waiting.{Waiting}
-use Rattle.aries.specs.declared.state.Waiting.TheVariants.{Unset, At}
-use Rattle.aries.specs.Outcome.{Out, done, refused}
+use Rattle.aries.specs.Outcome.{Out}
 use Rattle.aries.specs.Entries.{placed_by, Made, map_after}
 use Rattle.aries.specs.Judging.{Judging, limits}
 use Rattle.aries.specs.Mirrors.{no_mirror, opened, reflected, mirrored, seen_from, seen}
@@ -35,8 +34,8 @@ use Rattle.aries.proofs.Parts.{bounds_dropped}
 
 -- what is left at the origin, twice
 left_again : (f : Frame) (x : Out (Made Progress)) → map_after (at_origin f) (map_after (at_origin f) x) ≡ map_after (at_origin f) x
-left_again f (done m) = refl
-left_again f (refused number line) = refl
+left_again f (Ok m) = refl
+left_again f (Err e) = refl
 
 module _ (call : Calls) (f : Frame) (line part : ℕ) (g : Progress) where
   -- the macro, called in a frame with these mirrors
@@ -99,12 +98,12 @@ still to = record { by = zero_point; to = to }
 
 state_stays : (s : State) → moved_state zero_point s ≡ s
 state_stays s =
-    ap₂ (λ (p : Point) (w : Waiting). record { current = p; waiting = record { origin = w }; incremental = s.incremental; nibble = s.nibble; tool = s.tool; memories = s.memories; spans = s.spans; given = s.given })
-    (⊕-zero s.current) (go s.waiting.origin)
+    ap₂ (λ (p : Point) (w : Option Point). record { current = p; waiting = w; incremental = s.incremental; nibble = s.nibble; tool = s.tool; memories = s.memories; spans = s.spans; given = s.given })
+    (⊕-zero s.current) (go s.waiting)
   where
-    go : (w : Waiting) → moved_waiting zero_point w ≡ w
-    go Unset = refl
-    go (At p) = ap At (⊕-zero p)
+    go : (w : Option Point) → moved_waiting zero_point w ≡ w
+    go None = refl
+    go (Some p) = ap Some (⊕-zero p)
 
 frame_stays : (m : Mirror) (f : Frame) → moved_frame zero_point f.job.places m f ≡ record { job = f.job; machine = f.machine; origin = f.origin; mirror = m }
 frame_stays m f = ap (λ (p : Point). record { job = f.job; machine = f.machine; origin = p; mirror = m }) (⊕-zero f.origin)
@@ -148,14 +147,14 @@ module _ (c : MirrorRun) where
       along e s = Follows ⊥ j (still to) counted counted (call j c.bodies c.calls e c.part c.line (progress s counted)) free
 
   -- a block that is accepted: what its macro makes, from where it ends at the origin
-  ran : (q : ℕ) (m : Made Progress) → run_by q c ≡ done m → (k : Made Progress) × (inside q ≡ done k) × (m ≡ record { entries = k.entries; after = at_origin c.frame k.after })
+  ran : (q : ℕ) (m : Made Progress) → run_by q c ≡ Ok m → (k : Made Progress) × (inside q ≡ Ok k) × (m ≡ record { entries = k.entries; after = at_origin c.frame k.after })
   unfolding run_by
   ran q m e = go (inside q) refl e
     where
-      go : (x : Out (Made Progress)) → inside q ≡ x → map_after (at_origin c.frame) x ≡ done m
-          → (k : Made Progress) × (inside q ≡ done k) × (m ≡ record { entries = k.entries; after = at_origin c.frame k.after })
-      go (done k) p h = (k, p, sym (done_injective _ _ h))
-      go (refused number line) p h = absurd (refused≢done number line m h)
+      go : (x : Out (Made Progress)) → inside q ≡ x → map_after (at_origin c.frame) x ≡ Ok m
+          → (k : Made Progress) × (inside q ≡ Ok k) × (m ≡ record { entries = k.entries; after = at_origin c.frame k.after })
+      go (Ok k) p h = (k, p, sym (done_injective _ _ h))
+      go (Err e) p h = absurd (refused≢done e m h)
 
 -- entries whose hits go to the same places
 placed_alike : (to to' : Point → Point) → ((p : Point) → to p ≡ to' p) → (es : List Entry) → map (placed_by to) es ≡ map (placed_by to') es
@@ -192,7 +191,7 @@ same_end {n = n} {n' = n'} {k = k} {k' = k'} r r' =
     entries : k'.after.entries ≡ k.after.entries
     entries = let b : r.by.entries ≡ r'.by.entries = ap (λ (d : Counts). d.entries) by in omega (arith, b, r.together.up.entries, r'.together.up.entries)
 
-turned : (q : ℕ) (c : MirrorRun) (m m' : Made Progress) → run_by 1 c ≡ done m → run_by q c ≡ done m'
+turned : (q : ℕ) (c : MirrorRun) (m m' : Made Progress) → run_by 1 c ≡ Ok m → run_by q c ≡ Ok m'
     → (m'.entries ≡ map (placed_by (image_by q c)) m.entries) × (m'.after ≡ m.after)
 turned q c m m' e e' =
     let a = ran c 1 m e in

@@ -1,5 +1,6 @@
 -- The entries of a block that punches are hits with one tool, the one that it leaves.
-use mathlib.Core.Path.{◌≡◌, refl, sym, ◌∙◌, subst}
+use Rattle.std.specs.Prelude.{Err, Ok, None, Option, Some}
+use mathlib.Core.Path.{◌≡◌, ap, refl, sym, ◌∙◌, subst}
 use mathlib.Core.Bool.{Bool, true, false}
 use mathlib.Core.List.{List, [], ◌∷◌, ◌++◌}
 use Prim.Native.Nat.{ℕ, zero, suc, ◌-◌}
@@ -7,8 +8,9 @@ use borrow.Author.Tests.{eq-eqb}
 use lib.Dec.{ltb}
 use lib.IntN.{ℤ}
 use lib.ListN.{get_or}
+use Rattle.aries.specs.declared.refusal.Refusal.{Refusal}
+use Rattle.aries.specs.declared.refusal.Refusal.TheVariants.{NoTool, TooFar, OutOfRange, ListFull, ShearUnfit}
 use Rattle.aries.specs.declared.job.Job.{Job}
-use Rattle.aries.specs.declared.state.Status.{Status}
 use Rattle.aries.specs.declared.block.Axes.{Axes}
 use Rattle.aries.specs.declared.block.Pattern.{Pattern}
 use Rattle.aries.specs.declared.block.Pattern.TheVariants.{Line, Arc, Circle, Grid, Shear}
@@ -16,23 +18,22 @@ use Rattle.aries.specs.declared.entry.Entry.{Entry}
 use Rattle.aries.specs.declared.point.Point.{Point}
 use Rattle.aries.specs.declared.state.Frame.{Frame}
 use Rattle.aries.specs.declared.state.Progress.{Progress}
-use Rattle.aries.specs.declared.state.Stored.{Stored}
-use Rattle.aries.specs.declared.state.Stored.TheVariants.{Empty, Kept}
-use Rattle.aries.specs.Outcome.{Out, done, refused, ◌>>=◌, need}
+use Rattle.aries.specs.Outcome.{Out, ◌>>=◌, need}
 use Rattle.aries.specs.Entries.{Made, adding, and_then, map_after}
 use Rattle.aries.specs.Judging.{Judging, room, judged, near}
 use Rattle.aries.specs.Machine.{in_range}
 use Rattle.aries.specs.Mirrors.{seen}
 use Rattle.aries.specs.Moves.{◌⊕◌, moved_to, entered, hit_of, target, choosing, dropping, remembering, with_state, punch, position}
-use Rattle.aries.specs.Patterns.{hit_offset, hit_count, reach_is_near, shear_is_fit, punches, start_of, starting, ending, pattern, run_pattern, empty_memory, recalled, recall}
+use Rattle.aries.specs.Patterns.{hit_offset, hit_count, reach_is_near, shear_is_fit, punches, start_of, starting, ending, pattern, run_pattern, recalled, recall}
 use Rattle.aries.specs.Runs.{lent, lent_both, Ran, entries_made}
 use Rattle.aries.specs.Tallying.{with_hits}
+use Rattle.aries.proofs.Runs.{left_is}
 use Rattle.aries.proofs.Tallied.{AllBy, ran_hits}
 
 -- what is done leaves a tool, and its entries are hits with it
 abbrev DoneWith : ℕ → Out (Made Progress) → Type 0
-DoneWith tool (refused number line) = Unit {0}
-DoneWith tool (done m) = (m.after.state.tool ≡ tool) × AllBy tool m.entries
+DoneWith tool (Err e) = Unit {0}
+DoneWith tool (Ok m) = (m.after.state.tool ≡ tool) × AllBy tool m.entries
 
 pub record OneTool (tool : ℕ) (x : Out (Made Progress)) : Type 0 where
   pub with_it : DoneWith tool x
@@ -43,21 +44,21 @@ all_append tool (e ∷ a) b h k = (h.0, all_append tool a b h.1 k)
 
 module _ {tool : ℕ} where
   -- past a test
-  one-need : (t : Bool) (number line : ℕ) {x : Out (Made Progress)} → OneTool tool x → OneTool tool (◌>>=◌ (need t number line) (λ _. x))
-  one-need true number line h = h
-  one-need false number line h = record { with_it = tt }
+  one-need : (t : Bool) (refusal : Refusal) (line : ℕ) {x : Out (Made Progress)} → OneTool tool x → OneTool tool (◌>>=◌ (need t refusal line) (λ _. x))
+  one-need true refusal line h = h
+  one-need false refusal line h = record { with_it = tt }
 
   one_then : (x : Out (Made Progress)) (f : Progress → Out (Made Progress)) → OneTool tool x → ((g : Progress) → g.state.tool ≡ tool → OneTool tool (f g)) → OneTool tool (and_then x f)
-  one_then (refused number line) f h k = record { with_it = tt }
-  one_then (done m) f h k = go (f m.after) (k m.after h.with_it.0)
+  one_then (Err e) f h k = record { with_it = tt }
+  one_then (Ok m) f h k = go (f m.after) (k m.after h.with_it.0)
     where
       go : (y : Out (Made Progress)) → OneTool tool y → OneTool tool (adding m.entries y)
-      go (refused number line) i = record { with_it = tt }
-      go (done r) i = record { with_it = (i.with_it.0, all_append tool m.entries r.entries h.with_it.1 i.with_it.1) }
+      go (Err e) i = record { with_it = tt }
+      go (Ok r) i = record { with_it = (i.with_it.0, all_append tool m.entries r.entries h.with_it.1 i.with_it.1) }
 
   one_map : (f : Progress → Progress) (x : Out (Made Progress)) → ((g : Progress) → (f g).state.tool ≡ g.state.tool) → OneTool tool x → OneTool tool (map_after f x)
-  one_map f (refused number line) same h = record { with_it = tt }
-  one_map f (done m) same h = record { with_it = (same m.after ∙ h.with_it.0, h.with_it.1) }
+  one_map f (Err e) same h = record { with_it = tt }
+  one_map f (Ok m) same h = record { with_it = (same m.after ∙ h.with_it.0, h.with_it.1) }
 
 -- no pattern changes the tool as it ends
 pub ending_tool : (p : Pattern) (start : Point) (g : Progress) → (ending p start g).state.tool ≡ g.state.tool
@@ -71,10 +72,10 @@ module _ (j : Judging) (f : Frame) (line : ℕ) where
   one-punch : {tool : ℕ} (p : Point) (g : Progress) → g.state.tool ≡ tool → OneTool tool (punch j f line p g)
   unfolding punch
   one-punch {tool} p g e =
-      one-need (ltb 0 g.state.tool) 14 line
-      (one-need (judged j.bounds (near (seen f p))) 15 line
-      (one-need (judged j.bounds (in_range f (seen f p))) 16 line
-      (one-need (room j.places g.entries) 17 line {x = done (entered (hit_of g.state (seen f p)) (with_state g (moved_to g.state p)))} (record { with_it = (e, (eq-eqb g.state.tool tool e, tt)) }))))
+      one-need (ltb 0 g.state.tool) NoTool line
+      (one-need (judged j.bounds (near (seen f p))) TooFar line
+      (one-need (judged j.bounds (in_range f (seen f p))) OutOfRange line
+      (one-need (room j.places g.entries) ListFull line {x = Ok (entered (hit_of g.state (seen f p)) (with_state g (moved_to g.state p)))} (record { with_it = (e, (eq-eqb g.state.tool tool e, tt)) }))))
 
   one-punches : {tool : ℕ} (p : Pattern) (start : Point) (n k : ℕ) (g : Progress) → g.state.tool ≡ tool → OneTool tool (punches j f line p start n k g)
   unfolding punches
@@ -85,8 +86,8 @@ module _ (j : Judging) (f : Frame) (line : ℕ) where
   one-pattern : (p : Pattern) (g : Progress) → OneTool g.state.tool (pattern j f line p g)
   unfolding pattern
   one-pattern p g =
-      one-need (shear_is_fit p) 18 line
-      (one-need (judged j.bounds (reach_is_near p)) 15 line
+      one-need (shear_is_fit p) ShearUnfit line
+      (one-need (judged j.bounds (reach_is_near p)) TooFar line
       (one_map (ending p (start_of g.state)) (punches j f line p (start_of g.state) (hit_count p) 0 (starting g)) (ending_tool p (start_of g.state))
       (one-punches p (start_of g.state) (hit_count p) 0 (starting g) refl)))
 
@@ -102,23 +103,24 @@ module _ (j : Judging) (f : Frame) (line : ℕ) where
 
   pub one-recall : (n : ℕ) (g : Progress) → OneTool g.state.tool (recall j f line n g)
   unfolding recall
-  one-recall n g = go (get_or g.state.memories (n - 1) empty_memory).stored
+  one-recall n g = go (get_or g.state.memories (n - 1) None)
     where
-      go : (s : Stored) → OneTool g.state.tool (recalled j f line s g)
-      go Empty = record { with_it = tt }
-      go (Kept p) = one-pattern p g
+      go : (s : Option Pattern) → OneTool g.state.tool (recalled j f line s g)
+      go None = record { with_it = tt }
+      go (Some p) = one-pattern p g
 
 -- by the tool that is left
-hits_by_left : {tool : ℕ} (x : Out (Made Progress)) (m : Made Progress) → OneTool tool x → x ≡ done m → AllBy m.after.state.tool m.entries
+hits_by_left : {tool : ℕ} (x : Out (Made Progress)) (m : Made Progress) → OneTool tool x → x ≡ Ok m → AllBy m.after.state.tool m.entries
 hits_by_left {tool} x m h e =
     let a = subst (DoneWith tool) e h.with_it in
     subst (λ (t : ℕ). AllBy t m.entries) (sym a.0) a.1
 
 -- something carried out with the list alone, with its hits counted by the tool that is left
 pub carried_hits :
-    {job : Job} {status : Status} {left : Progress} {l l' : List ℤ} {k tool : ℕ} {out : Out (Made Progress)} (t : List ℕ) → OneTool tool out
-    → Ran entries_made job status left (lent l) (lent l') k out
-    → Ran entries_made job status left (lent_both l t) (lent_both l' (with_hits t left.state.tool k left.entries)) k out
+    {job : Job} {left : Progress} {l l' : List ℤ} {k tool : ℕ} {out : Out (Made Progress)} (t : List ℕ) → OneTool tool out
+    → Ran entries_made job (Ok left) (lent l) (lent l') k out
+    → Ran entries_made job (Ok left) (lent_both l t) (lent_both l' (with_hits t left.state.tool k left.entries)) k out
 carried_hits {left = left} {out = out} t h ran =
-    ran_hits ran t left.state.tool λ m e.
-    subst (λ (g : Progress). AllBy g.state.tool m.entries) (sym (ran.same_left m e)) (hits_by_left out m h e)
+    ran_hits ran t left.state.tool left.entries
+    (λ m e. subst (λ (g : Progress). AllBy g.state.tool m.entries) (sym (left_is ran.same m e)) (hits_by_left out m h e))
+    (λ m e. ap (λ (g : Progress). g.entries) (left_is ran.same m e))

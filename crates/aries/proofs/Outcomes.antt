@@ -1,53 +1,63 @@
 -- Laws of what is accepted: a refusal is none, and what two things one after the other say of each.
+use Rattle.std.specs.Prelude.{Result, Err, Ok}
 use mathlib.Core.Path.{◌≡◌, refl, sym, ap, ◌∙◌, subst}
 use mathlib.Core.Bool.{Bool, true, false}
 use mathlib.Core.List.{List, ◌++◌, append_assoc}
 use Prim.Native.Nat.{ℕ}
-use Rattle.aries.specs.Outcome.{Out, done, refused, ◌>>=◌, need}
+use Rattle.aries.specs.declared.refusal.Refusal.{Refusal}
+use Rattle.aries.specs.Outcome.{Out, ◌>>=◌, need}
 use Rattle.aries.specs.declared.entry.Entry.{Entry}
 use Rattle.aries.specs.Entries.{Made, adding, and_then}
 
-abbrev IsRefused : {A : Type 0} → Out A → Type 0
-IsRefused (refused number line) = Unit {0}
-IsRefused (done a) = ⊥
+abbrev IsRefused : {A E : Type 0} → Result A E → Type 0
+IsRefused (Err e) = Unit {0}
+IsRefused (Ok a) = ⊥
 
-pub refused≢done : {A : Type 0} (number line : ℕ) (a : A) → refused number line ≡ done a → ⊥
-refused≢done number line a e = subst IsRefused e tt
+pub refused≢done : {A E : Type 0} (e : E) (a : A) → ◌≡◌ {A = Result A E} (Err e) (Ok a) → ⊥
+refused≢done e a is = subst IsRefused is tt
 
-abbrev result_or : {A : Type 0} → A → Out A → A
-result_or a (refused number line) = a
-result_or a (done b) = b
+abbrev result_or : {A E : Type 0} → A → Result A E → A
+result_or a (Err e) = a
+result_or a (Ok b) = b
 
-pub done_injective : {A : Type 0} (a b : A) → done a ≡ done b → a ≡ b
+pub done_injective : {A E : Type 0} (a b : A) → ◌≡◌ {A = Result A E} (Ok a) (Ok b) → a ≡ b
 done_injective a b e = ap (result_or a) e
+
+abbrev refusal_or : {A E : Type 0} → E → Result A E → E
+refusal_or e (Ok a) = e
+refusal_or e (Err r) = r
+
+-- one refusal is the other
+pub err_as : {A E : Type 0} (e r : E) → ◌≡◌ {A = Result A E} (Err e) (Err r) → e ≡ r
+err_as e r is = ap (refusal_or e) is
 
 -- one thing and another, and then a third
 pub >>=-assoc : {A B C : Type 0} (x : Out A) (f : A → Out B) (g : B → Out C) → ◌>>=◌ (◌>>=◌ x f) g ≡ ◌>>=◌ x (λ a. ◌>>=◌ (f a) g)
->>=-assoc (done a) f g = refl
->>=-assoc (refused number line) f g = refl
+>>=-assoc (Ok a) f g = refl
+>>=-assoc (Err e) f g = refl
 
 -- what goes on past a test has passed it
 pub need_accepted :
-    {A : Type 0} (t : Bool) (number line : ℕ) (x : Out A) (a : A) → ◌>>=◌ (need t number line) (λ _. x) ≡ done a → (t ≡ true) × (x ≡ done a)
-need_accepted true number line x a e = (refl, e)
-need_accepted false number line x a e = absurd (refused≢done number line a e)
+    {A : Type 0} (t : Bool) (refusal : Refusal) (line : ℕ) (x : Out A) (a : A) → ◌>>=◌ (need t refusal line) (λ _. x) ≡ Ok a → (t ≡ true) × (x ≡ Ok a)
+need_accepted true refusal line x a e = (refl, e)
+need_accepted false refusal line x a e = absurd (refused≢done (record { refusal = refusal; line = line }) a e)
 
 -- the first was accepted, and then the second: its entries come after, and what it leaves is left
 pub record Both {A : Type 0} (x : Out (Made A)) (f : A → Out (Made A)) (m : Made A) : Type 0 where
   pub first : Made A
   pub second : Made A
-  pub first_is : x ≡ done first
-  pub second_is : f first.after ≡ done second
+  pub first_is : x ≡ Ok first
+  pub second_is : f first.after ≡ Ok second
   pub entries_are : m.entries ≡ first.entries ++ second.entries
   pub after_is : m.after ≡ second.after
 
-pub then_accepted : {A : Type 0} (x : Out (Made A)) (f : A → Out (Made A)) (m : Made A) → and_then x f ≡ done m → Both x f m
-then_accepted (refused number line) f m e = absurd (refused≢done number line m e)
-then_accepted {A} (done k) f m e = go (f k.after) refl e
+pub then_accepted : {A : Type 0} (x : Out (Made A)) (f : A → Out (Made A)) (m : Made A) → and_then x f ≡ Ok m → Both x f m
+then_accepted (Err r) f m e = absurd (refused≢done r m e)
+then_accepted {A} (Ok k) f m e = go (f k.after) refl e
   where
-    go : (y : Out (Made A)) → f k.after ≡ y → adding k.entries y ≡ done m → Both (done k) f m
-    go (refused number line) p q = absurd (refused≢done number line m q)
-    go (done r) p q =
+    go : (y : Out (Made A)) → f k.after ≡ y → adding k.entries y ≡ Ok m → Both (Ok k) f m
+    go (Err e) p q = absurd (refused≢done e m q)
+    go (Ok r) p q =
         let d : record { entries = k.entries ++ r.entries; after = r.after } ≡ m = done_injective _ _ q in
         record {
           first = k;
@@ -59,14 +69,14 @@ then_accepted {A} (done k) f m e = go (f k.after) refl e
         }
 
 -- and back: two accepted ones make an accepted one
-pub accepted_then : {A : Type 0} (x : Out (Made A)) (f : A → Out (Made A)) (k r : Made A) → x ≡ done k → f k.after ≡ done r → and_then x f ≡ done (record { entries = k.entries ++ r.entries; after = r.after })
+pub accepted_then : {A : Type 0} (x : Out (Made A)) (f : A → Out (Made A)) (k r : Made A) → x ≡ Ok k → f k.after ≡ Ok r → and_then x f ≡ Ok (record { entries = k.entries ++ r.entries; after = r.after })
 accepted_then x f k r e g = ap (λ (y : Out (Made _)). and_then y f) e ∙ ap (adding k.entries) g
 
 -- entries, and then one thing after the other
 pub adding_then : {A : Type 0} (es : List Entry) (x : Out (Made A)) (k : A → Out (Made A)) → adding es (and_then x k) ≡ and_then (adding es x) k
-adding_then es (refused number line) k = refl
-adding_then {A} es (done m) k = go (k m.after)
+adding_then es (Err e) k = refl
+adding_then {A} es (Ok m) k = go (k m.after)
   where
     go : (y : Out (Made A)) → adding es (adding m.entries y) ≡ adding (es ++ m.entries) y
-    go (refused number line) = refl
-    go (done n) = ap (λ (l : List Entry). done (record { entries = l; after = n.after })) (sym (append_assoc es m.entries n.entries))
+    go (Err e) = refl
+    go (Ok n) = ap (λ (l : List Entry). Ok (record { entries = l; after = n.after })) (sym (append_assoc es m.entries n.entries))

@@ -1,8 +1,8 @@
 -- The part of a run, carried out once at a place: it is the own run at (0, 0) moved, where it is accepted, and it is accepted
 -- where it is by bounds alone and what it counts fits. The own run may be that of another run of the same part.
+use Rattle.std.specs.Prelude.{None, Option, Some}
 use mathlib.Core.Path.{◌≡◌, refl, sym, ap, ◌∙◌, subst, subst₂}
 use mathlib.Core.Bool.{Bool, true, false}
-use mathlib.Core.Option.{Option, none, some}
 use Prim.Native.Nat.{ℕ, ◌-◌}
 use native.Mathlib.Omega.{arith}
 use Rattle.aries.specs.declared.reader.Setting.{Setting}
@@ -97,13 +97,13 @@ module _ (c o : Circumstances) (same : SamePart c o) where
           → Follows E j (translation v) n n'
           (called j c x (moved_frame v c.setup.job.places no_mirror (frame_at (ordinary_frame o.setup) q)) (progress (copy_start o.before.state (q ⊕ v)) n))
           (called (unlimited bounds) o y (frame_at (ordinary_frame o.setup) q) (progress (copy_start o.before.state q) n'))
-      go none none e = refusals
-      go none (some b) e = let z : ◌≡◌ {A = ℕ} 0 1 = cc in absurd (omega arith)
-      go (some a) none e = let z : ◌≡◌ {A = ℕ} 0 1 = cc in absurd (omega arith)
-      go (some a) (some b) e =
+      go None None e = refusals
+      go None (Some b) e = let z : ◌≡◌ {A = ℕ} 0 1 = cc in absurd (omega arith)
+      go (Some a) None e = let z : ◌≡◌ {A = ℕ} 0 1 = cc in absurd (omega arith)
+      go (Some a) (Some b) e =
           run_body_follows j bounds (translation v) c.setup.job.places w c.bodies o.bodies same.bodies (most_calls - 1) (frame_at (ordinary_frame o.setup) q) no_mirror
           (λ p. seen_moves (frame_at (ordinary_frame o.setup) q) p v) a b
-          (let h : some a.bytes ≡ some b.bytes = e in cc) (copy_start o.before.state q) n n'
+          (let h : Some a.bytes ≡ Some b.bytes = e in cc) (copy_start o.before.state q) n n'
 
   -- where it is accepted, it is the own run moved
   pub part_own : (j : Judging) (p : Point) (n n' : Counts) → Follows ⊥ j (translation p) n n' (part_at c j p n) (own_from o n')
@@ -135,12 +135,12 @@ alike_turned r =
     }
 
 -- where the part of one is stored, so is that of the other
-pub part-stored : {c d : Circumstances} (b : Body) → c.bodies c.part ≡ some b → SamePart c d → (b' : Body) × (d.bodies d.part ≡ some b')
+pub part-stored : {c d : Circumstances} (b : Body) → c.bodies c.part ≡ Some b → SamePart c d → (b' : Body) × (d.bodies d.part ≡ Some b')
 part-stored {c} {d} b e r = go (d.bodies d.part) refl
   where
-    go : (o : Option Body) → d.bodies d.part ≡ o → (b' : Body) × (d.bodies d.part ≡ some b')
-    go (some b') p = (b', p)
-    go none p = let h : bytes_of (some b) ≡ bytes_of none = sym (ap bytes_of e) ∙ r.part ∙ ap bytes_of p in let z : ◌≡◌ {A = ℕ} 0 1 = cc in absurd (omega arith)
+    go : (o : Option Body) → d.bodies d.part ≡ o → (b' : Body) × (d.bodies d.part ≡ Some b')
+    go (Some b') p = (b', p)
+    go None p = let h : bytes_of (Some b) ≡ bytes_of None = sym (ap bytes_of e) ∙ r.part ∙ ap bytes_of p in let z : ◌≡◌ {A = ℕ} 0 1 = cc in absurd (omega arith)
 
 -- what fits in one fits in the other
 pub fit_alike : {c d : Circumstances} {n : Counts} → AllAlike c d → Fit (limits c.setup.job) (counts_of c.before) n → Fit (limits d.setup.job) (counts_of d.before) n

@@ -1,37 +1,23 @@
--- Laws of the ranges: where words that are not written are zero, the numbers that pass a range are small, absent ones too.
-use mathlib.Core.Path.{◌≡◌, refl, sym, ap, subst}
+-- Laws of the ranges: the numbers that pass a range are small, absent ones too.
+use Rattle.std.specs.Prelude.{None, Option, Some, option_map, unwrap_or}
+use mathlib.Core.Path.{◌≡◌, refl, sym, subst}
 use mathlib.Core.Bool.{Bool, true, false, not, ◌&&◌, ◌||◌}
 use mathlib.Core.List.{List, [], ◌∷◌}
 use Prim.Native.Nat.{ℕ, ◌≤◌}
 use native.Mathlib.Nat.{le_trans}
 use native.Mathlib.Omega.{arith}
 use lib.Dec.{T, eqb, leb}
-use lib.IntN.{nat_abs}
+use lib.IntN.{pos, nat_abs}
 use borrow.Author.Tests.{eqb-true, leb-true}
 use Rattle.signed.proofs.Tests.{and_left, and_right}
 use Rattle.aries.specs.declared.word.Word.{Word}
 use Rattle.aries.specs.declared.block.Kind.{Kind}
-use Rattle.aries.specs.Letters.{index_of}
 use Rattle.aries.specs.Test.{within, every}
-use Rattle.aries.specs.ByLetter.{Letters, at, is_plain}
+use Rattle.aries.specs.ByLetter.{Letters, at, absent_or, is_plain}
 use Rattle.aries.specs.Numbers.{Range, above_zero, not_negative, whole, signed_whole, is_of_range, number_fits, ranges_of, common_ranges, is_ranged}
 use Rattle.aries.specs.Blocks.{count}
-use Rattle.aries.proofs.Words.{EachWord, ZeroIfAbsent}
 
 -- ---- One word
-
--- a number that is absent, or within bounds by a test
-absent_or :
-    (v : Word) (t : Bool) (least most : ℕ) → ZeroIfAbsent v → (not v.written || (t && within least most (nat_abs v.value))) ≡ true
-    → nat_abs v.value ≤ most
-absent_or v t least most zero h = go v.written refl
-  where
-    go : (written : Bool) → v.written ≡ written → nat_abs v.value ≤ most
-    go false e = subst (λ (n : ℕ). n ≤ most) (sym (ap nat_abs (zero e))) (omega arith)
-    go true e =
-        let range : (t && within least most (nat_abs v.value)) ≡ true = subst (λ (w : Bool). (not w || (t && within least most (nat_abs v.value))) ≡ true) e h in
-        let inside : within least most (nat_abs v.value) ≡ true = and_right t (within least most (nat_abs v.value)) range in
-        leb-true (nat_abs v.value) most (and_right (leb least (nat_abs v.value)) (leb (nat_abs v.value) most) inside)
 
 -- whether a range holds whole numbers of at most so much
 abbrev up_to : ℕ → Range → Bool
@@ -40,14 +26,20 @@ up_to cap not_negative = false
 up_to cap (whole least most) = leb most cap
 up_to cap (signed_whole least most) = leb most cap
 
--- a number that passes such a range
+-- a number within bounds, by two tests
+bounded : (t : Bool) (least most n cap : ℕ) → leb most cap ≡ true → (t && within least most n) ≡ true → n ≤ cap
+bounded t least most n cap u h =
+    le_trans (leb-true n most (and_right (leb least n) (leb n most) (and_right t (within least most n) h))) (leb-true most cap u)
+
+-- a number that passes such a range, or is absent
 small-enough :
-    (range : Range) (v : Word) (cap : ℕ) → ZeroIfAbsent v → up_to cap range ≡ true → (not v.written || is_of_range range v) ≡ true
-    → nat_abs v.value ≤ cap
-small-enough above_zero v cap zero u h = absurd (subst T (sym u) tt)
-small-enough not_negative v cap zero u h = absurd (subst T (sym u) tt)
-small-enough (whole least most) v cap zero u h = le_trans (absent_or v (is_plain v) least most zero h) (leb-true most cap u)
-small-enough (signed_whole least most) v cap zero u h = le_trans (absent_or v (not v.pointed) least most zero h) (leb-true most cap u)
+    (range : Range) (o : Option Word) (cap : ℕ) → up_to cap range ≡ true → absent_or (is_of_range range) o ≡ true
+    → nat_abs (unwrap_or (option_map (λ (v : Word). v.value) o) (pos 0)) ≤ cap
+small-enough range None cap u h = omega arith
+small-enough above_zero (Some v) cap u h = absurd (subst T (sym u) tt)
+small-enough not_negative (Some v) cap u h = absurd (subst T (sym u) tt)
+small-enough (whole least most) (Some v) cap u h = bounded (is_plain v) least most (nat_abs v.value) cap u h
+small-enough (signed_whole least most) (Some v) cap u h = bounded (not v.pointed) least most (nat_abs v.value) cap u h
 
 -- ---- The words of a block
 
@@ -56,7 +48,7 @@ abbrev pub limits : List (ℕ × Range) → ℕ → ℕ → Bool
 limits [] letter cap = false
 limits (e ∷ es) letter cap = (eqb e.0 letter && up_to cap e.1) || limits es letter cap
 
-module _ (w : Letters) (zeros : EachWord ZeroIfAbsent w) where
+module _ (w : Letters) where
   -- where all numbers of the table fit, that one does
   limited : (es : List (ℕ × Range)) (letter cap : ℕ) → limits es letter cap ≡ true → every (number_fits w) es ≡ true → count w letter ≤ cap
   limited [] letter cap l h = absurd (subst T (sym l) tt)
@@ -68,7 +60,7 @@ module _ (w : Letters) (zeros : EachWord ZeroIfAbsent w) where
           → (limits es letter cap ≡ true → count w letter ≤ cap)
           → count w letter ≤ cap
       go true b m later =
-          let first = small-enough e.1 (at w e.0) cap (zeros (index_of e.0)) (and_right (eqb e.0 letter) (up_to cap e.1) b) (and_left (number_fits w e) (every (number_fits w) es) h) in
+          let first = small-enough e.1 (at w e.0) cap (and_right (eqb e.0 letter) (up_to cap e.1) b) (and_left (number_fits w e) (every (number_fits w) es) h) in
           subst (λ (n : ℕ). count w n ≤ cap) (eqb-true e.0 letter (and_left (eqb e.0 letter) (up_to cap e.1) b)) first
       go false b m later = later m
 

@@ -1,34 +1,33 @@
 -- Demand 1, of refusals: past 1 each has a number from 2 to 18 and the line of a block that is carried out (`Sound`). Of the
 -- blocks of bodies too that is a line of the text: wherever a program comes, all that is stored lies within its lines. And the
 -- tool that it has chosen is at most 99, so that all hits of a text that is not refused have tools, from which `Tools` goes on.
+use Rattle.std.specs.Prelude.{Err, None, Ok, Option, Some}
 use mathlib.Core.Path.{◌≡◌, refl, sym, ap, ◌∙◌, subst}
-use mathlib.Core.Bool.{Bool, true, false, true≢false, cond, ◌&&◌}
+use mathlib.Core.Bool.{Bool, true, false, true≢false, ◌&&◌}
 use mathlib.Core.List.{List, [], ◌∷◌}
-use mathlib.Core.Option.{Option, none, some}
 use Prim.Native.Nat.{ℕ, suc, ◌+◌, ◌-◌, ◌≤◌, ◌<◌}
 use native.Mathlib.Nat.{add_assoc}
 use native.Mathlib.Omega.{arith}
 use lib.Dec.{leb, ltb, eqb}
 use lib.IntN.{ℤ}
-use lib.ListN.{length, drop, length-set}
+use lib.ListN.{length, drop}
 use lib.Seq.{drop-drop, get_or-set_same, get_or-set_other}
 use borrow.Author.Tests.{ltb-true, ltb-false, eqb-true, eqb-false, leb-true}
+use Rattle.aries.specs.declared.refusal.Refusal.TheVariants.{TextLength, OutOfPlace, NotClosed, StoreFull, TooFar}
+use Rattle.aries.specs.declared.block.Layout.{Layout}
+use Rattle.aries.specs.declared.machine.Machine.{Machine}
 use Rattle.aries.specs.declared.block.Outside.{Outside}
 use Rattle.aries.specs.declared.block.Block.{Block}
 use Rattle.aries.specs.declared.job.Job.{Job}
-use Rattle.aries.specs.declared.machine.Named.{Named}
-use Rattle.aries.specs.declared.machine.Named.TheVariants.{As, Neither}
 use Rattle.aries.specs.declared.macros.Macros.{Macros}
-use Rattle.aries.specs.declared.macros.Found.TheVariants as Found
+use Rattle.aries.specs.declared.macros.StoredBody.{StoredBody}
 use Rattle.aries.specs.declared.point.Point.{Point}
-use Rattle.aries.specs.declared.setup.Sheet.{Sheet}
-use Rattle.aries.specs.declared.setup.Sheet.TheVariants.{LaidOut}
 use Rattle.aries.specs.declared.setup.Stage.TheVariants.{Running}
 use Rattle.aries.specs.declared.setup.Setup.{Setup}
 use Rattle.aries.specs.declared.setup.Program.{Program}
 use Rattle.aries.specs.declared.state.Progress.{Progress}
 use Rattle.aries.specs.Test.{within}
-use Rattle.aries.specs.Outcome.{Out, done, refused, ◌>>=◌, need}
+use Rattle.aries.specs.Outcome.{refusal_number, Out, ◌>>=◌, need}
 use Rattle.aries.specs.Letters.{letter_v}
 use Rattle.aries.specs.Text.{longest, starts_with, stray_line, without_spaces, lines}
 use Rattle.aries.specs.declared.entry.Entry.{Entry}
@@ -36,7 +35,7 @@ use Rattle.aries.specs.Entries.{Made, no_entry}
 use Rattle.aries.specs.Judging.{Judging, judged, near, limits, lending}
 use Rattle.aries.specs.Machine.{named}
 use Rattle.aries.specs.Moves.{◌⊕◌}
-use Rattle.aries.specs.Macros.{Body, no_macros, body_at, bodies_of, storing, part, characters, most_calls, run_body, call, carry, begin}
+use Rattle.aries.specs.Macros.{Body, no_macros, bodies_of, storing, part, characters, most_calls, run_body, call, carry, begin}
 use Rattle.aries.specs.Setup.{reference_of, with_origin, set_origin, offset_by, ordinary_frame}
 use Rattle.aries.specs.Bodies.{body_size, most_characters, runs_first, first_run, body_from, stored_at, Store, with_stored, open_body}
 use Rattle.aries.specs.Reader.{setting_of, reader_of}
@@ -49,45 +48,25 @@ use Rattle.aries.proofs.Sound.{LineOf, HitsNamed, Any, Each, Proper, Sound, Tool
 
 -- ---- What is stored
 
--- the arrays are equally long, and each body lies within the lines of the text
+-- each body lies within the lines of the text
 pub record StoreOf (last : ℕ) (text : List ℕ) (m : Macros) : Type 0 where
-  pub starts : length m.start ≡ length m.line
-  pub ends : length m.end ≡ length m.line
   pub stored : BodiesOf last (bodies_of text m)
 
 module _ (last : ℕ) (text : List ℕ) where
-  module _ (m : Macros) (n start end line : ℕ) (s : StoreOf last text m) (b : BodyOf last (record { line = line; bytes = part text start end })) where
-    -- one body more, under a number that the arrays have,
-    stored_same : n < length m.line → Each (BodyOf last) (bodies_of text (storing m n start end line) n)
-    unfolding bodies_of
-    stored_same h =
-        let h' : n < length m.start = omega (arith, s.starts) in
-        let h'' : n < length m.end = omega (arith, s.ends) in
-        rw (get_or-set_same m.line n line 0 h, get_or-set_same m.start n start 0 h', get_or-set_same m.end n end 0 h'') (go (ltb 0 line))
-      where
-        go : (t : Bool) → Each (BodyOf last) (body_at text (cond t (Found.Body start end line) Found.Nothing))
-        go true = b
-        go false = tt
+  -- one body more
+  storing_of :
+      (m : Macros) (n : ℕ) (b : StoredBody) → StoreOf last text m → BodyOf last (record { line = b.line; bytes = part text b.start b.end })
+      → StoreOf last text (storing m n b)
+  unfolding bodies_of
+  storing_of m n b s k = go (ltb n (length m.bodies)) refl
+    where
+      at : n < length m.bodies → (i : ℕ) (t : Bool) → eqb i n ≡ t → Each (BodyOf last) (bodies_of text (storing m n b) i)
+      at h i true e = rw (eqb-true i n e, get_or-set_same m.bodies n (Some b) None h) k
+      at h i false e = rw (get_or-set_other m.bodies n i (Some b) None (eqb-false i n e)) (s.stored i)
 
-    -- and what the others hold
-    stored_other : (k : ℕ) → (k ≡ n → ⊥) → Each (BodyOf last) (bodies_of text (storing m n start end line) k)
-    unfolding bodies_of
-    stored_other k h =
-        rw (get_or-set_other m.line n k line 0 h, get_or-set_other m.start n k start 0 h, get_or-set_other m.end n k end 0 h) (s.stored k)
-
-    storing_of : StoreOf last text (storing m n start end line)
-    storing_of = go (ltb n (length m.line)) refl
-      where
-        at : n < length m.line → (k : ℕ) (t : Bool) → eqb k n ≡ t → Each (BodyOf last) (bodies_of text (storing m n start end line) k)
-        at h k true e = rw (eqb-true k n e) (stored_same h)
-        at h k false e = stored_other k (eqb-false k n e)
-
-        go : (t : Bool) → ltb n (length m.line) ≡ t → StoreOf last text (storing m n start end line)
-        go true e =
-            record { starts = simp length-set s.starts; ends = simp length-set s.ends; stored = λ k. at (ltb-true _ _ e) k (eqb k n) refl }
-        go false e =
-            let out = ltb-false n (length m.line) e in
-            rw (storing_out m n start end line (omega (arith, s.starts)) (omega (arith, s.ends)) out) s
+      go : (t : Bool) → ltb n (length m.bodies) ≡ t → StoreOf last text (storing m n b)
+      go true e = record { stored = λ i. at (ltb-true _ _ e) i (eqb i n) refl }
+      go false e = rw (storing_out m n b (ltb-false n (length m.bodies) e)) s
 
   -- ---- U lines
 
@@ -113,16 +92,16 @@ module _ (last : ℕ) (text : List ℕ) where
         → Sound last (λ (r : Store). StoreOf last text r.macros × ToolFits r.progress) (open_body j text n start line ls s st)
     unfolding open_body
     open_body_sound n start ls s st k fits a =
-        sound_given Any (body_size (reader_of (ordinary_frame s) st.progress.state) n ls) 9 refl h (any (body_size (reader_of (ordinary_frame s) st.progress.state) n ls)) λ size _.
+        sound_given Any (body_size (reader_of (ordinary_frame s) st.progress.state) n ls) NotClosed refl h (any (body_size (reader_of (ordinary_frame s) st.progress.state) n ls)) λ size _.
         let b = body_from_of start size a in
-        sound_need (leb (characters (stored_at st.macros n start size line)) most_characters) 12 refl h
+        sound_need (leb (characters (stored_at st.macros n start size line)) most_characters) StoreFull refl h
         (sound_map (with_stored (stored_at st.macros n start size line)) _
         (first_run_sound j st.macros n (body_from text start size line) s k b st.progress fits)
-        (λ g fits'. (storing_of st.macros n start (start + size) (suc line) k b, fits')))
+        (λ g fits'. (storing_of st.macros n (record { start = start; end = start + size; line = suc line }) k b, fits')))
       where
         any : (o : Option ℕ) → Each Any o
-        any none = tt
-        any (some size) = tt
+        any None = tt
+        any (Some size) = tt
 
   -- ---- Blocks outside bodies
 
@@ -131,18 +110,18 @@ module _ (last : ℕ) (text : List ℕ) where
   Held p = StoreOf last text p.macros × ToolFits p.progress
 
   settled_sound :
-      (j : Judging) (line : ℕ) → LineOf last line → (sheet : Sheet) (offset : Point) (s : Setup) (p : Program) → Held p
+      (j : Judging) (line : ℕ) → LineOf last line → (sheet : Option Layout) (offset : Point) (s : Setup) (p : Program) → Held p
       → Sound last Held (settled p (set_origin j line sheet offset s))
   unfolding set_origin
   settled_sound j line h sheet offset s p k = go (judged j.bounds (near (reference_of sheet ⊕ offset)))
     where
-      go : (t : Bool) → Sound last Held (settled p (◌>>=◌ (need t 15 line) (λ _. done (with_origin s sheet offset))))
+      go : (t : Bool) → Sound last Held (settled p (◌>>=◌ (need t TooFar line) (λ _. Ok (with_origin s sheet offset))))
       go true = sound_done k
       go false = sound_refused refl h
 
-  started_sound : (p : Program) (q : Point) (line : ℕ) → LineOf last line → (n : Named) → Held p → Sound last Held (started p q line n)
-  started_sound p q line h Neither k = sound_refused refl h
-  started_sound p q line h (As m) k = sound_done k
+  started_sound : (p : Program) (q : Point) (line : ℕ) → LineOf last line → (n : Option Machine) → Held p → Sound last Held (started p q line n)
+  started_sound p q line h None k = sound_refused refl h
+  started_sound p q line h (Some m) k = sound_done k
 
   pass_over_sound : (l : List ℕ) (p : Program) → Held p → Sound last Held (pass_over l p)
   pass_over_sound l p k = go (starts_with letter_v l)
@@ -160,7 +139,7 @@ module _ (last : ℕ) (text : List ℕ) where
     carry_outside_sound (Outside.Machine q) p k = started_sound p q line h (named q) k
     carry_outside_sound Outside.End p k = sound_done k
     carry_outside_sound (Outside.Offset a) p k = settled_sound j line h p.setup.sheet (offset_by a p.setup.offset) p.setup p k
-    carry_outside_sound (Outside.Layout l) p k = settled_sound j line h (LaidOut l) p.setup.offset p.setup p k
+    carry_outside_sound (Outside.Layout l) p k = settled_sound j line h (Some l) p.setup.offset p.setup p k
     carry_outside_sound (Outside.Open n) p k =
         sound_map (with_store p) _
         (open_body_sound j line h n next ls p.setup (with_stored p.macros p.progress) k.0 k.1 (rw rest room))
@@ -188,7 +167,7 @@ module _ (last : ℕ) (text : List ℕ) where
     unfolding run_block_outside
     run_block_outside_sound l p k =
         sound_bind (begin j (ordinary_frame p.setup) line l p.progress) _ (begin_proper j (ordinary_frame p.setup) line h l p.progress k.1) λ b fits.
-        sound_need (in_place p.stage b.block) 7 refl h (carry_out_sound b.block fits.0 (with_progress p b.progress) (k.0, fits.1))
+        sound_need (in_place p.stage b.block) OutOfPlace refl h (carry_out_sound b.block fits.0 (with_progress p b.progress) (k.0, fits.1))
 
     run_line_outside_sound : (l : List ℕ) (p : Program) → Held p → Sound last Held (run_line_outside j text next line l ls p)
     run_line_outside_sound [] p k = sound_done k
@@ -218,7 +197,7 @@ module _ (last : ℕ) (text : List ℕ) where
 
 nothing_stored : (last : ℕ) (text : List ℕ) → StoreOf last text no_macros
 unfolding bodies_of
-nothing_stored last text = record { starts = refl; ends = refl; stored = λ n. rw (found_fresh n) tt }
+nothing_stored last text = record { stored = λ n. rw (found_fresh n) tt }
 
 within-bounds : (a b x : ℕ) → within a b x ≡ true → (a ≤ x) × (x ≤ b)
 within-bounds a b x e = go (leb a x) (leb x b) refl refl e
@@ -236,20 +215,20 @@ perform_proper last job text end h b =
     go (run_from (limits job) text 0 1 (lines text) (fresh_program job))
     (run_from_sound last text (limits job) 0 1 (lines text) (fresh_program job) refl (omega arith) (omega arith) (nothing_stored last text, omega arith))
   where
-    ended : (t : Bool) (entries : List Entry) → HitsNamed entries → Proper last HitsNamed (◌>>=◌ (need t 7 end) (λ _. done entries))
+    ended : (t : Bool) (entries : List Entry) → HitsNamed entries → Proper last HitsNamed (◌>>=◌ (need t OutOfPlace end) (λ _. Ok entries))
     ended true entries n = record { answered = n }
     ended false entries n = record { answered = (refl, h) }
 
     go :
         (x : Out (Made Program)) → Sound last (Held last text) x
-        → Proper last HitsNamed (◌>>=◌ x (λ m. ◌>>=◌ (need (is_ended m.after.stage) 7 end) (λ _. done m.entries)))
-    go (done m) k = ended (is_ended m.after.stage) m.entries k.answered.1
-    go (refused number line) k = record { answered = k.answered }
+        → Proper last HitsNamed (◌>>=◌ x (λ m. ◌>>=◌ (need (is_ended m.after.stage) OutOfPlace end) (λ _. Ok m.entries)))
+    go (Ok m) k = ended (is_ended m.after.stage) m.entries k.answered.1
+    go (Err e) k = record { answered = k.answered }
 
 -- what is known of the answer to a text
 abbrev pub TextAnswered : List ℕ → Out (List Entry) → Type 0
-TextAnswered text (done entries) = HitsNamed entries
-TextAnswered text (refused number line) = RefusalOf text number line
+TextAnswered text (Ok entries) = HitsNamed entries
+TextAnswered text (Err e) = RefusalOf text (refusal_number e.refusal) e.line
 
 module _ (text : List ℕ) where
   -- 2, and what comes after it
@@ -259,16 +238,16 @@ module _ (text : List ℕ) where
   no_stray_proper x k = go (stray_line 1 text) refl
     where
       go : (o : Option ℕ) → stray_line 1 text ≡ o → Proper (length (lines text)) HitsNamed (◌>>=◌ (no_stray o) (λ _. x))
-      go none e = k
-      go (some line) e =
+      go None e = k
+      go (Some line) e =
           let i = stray_inside text 1 line e in
           record { answered = (refl, record { from = i.0; to = omega arith }) }
 
   -- past 1
   proper_answered : (x : Out (List Entry)) → Proper (length (lines text)) HitsNamed x → TextAnswered text x
-  proper_answered (done entries) k = k.answered
-  proper_answered (refused number line) k =
-      let n = within-bounds 2 18 number k.answered.0 in
+  proper_answered (Ok entries) k = k.answered
+  proper_answered (Err e) k =
+      let n = within-bounds 2 18 (refusal_number e.refusal) k.answered.0 in
       let l = k.answered.1 in
       record {
         numbered = (omega arith, n.1);
@@ -278,7 +257,7 @@ module _ (text : List ℕ) where
 
   -- 1, and what comes after it
   size-answered :
-      (t : Bool) (x : Out (List Entry)) → (t ≡ true → Proper (length (lines text)) HitsNamed x) → TextAnswered text (◌>>=◌ (need t 1 0) (λ _. x))
+      (t : Bool) (x : Out (List Entry)) → (t ≡ true → Proper (length (lines text)) HitsNamed x) → TextAnswered text (◌>>=◌ (need t TextLength 0) (λ _. x))
   size-answered true x k = proper_answered x (k refl)
   size-answered false x k = record { numbered = (omega arith, omega arith); lineless = (λ _. refl, λ _. refl); lined = λ other. absurd (other refl) }
 
@@ -287,8 +266,8 @@ pub text-answered : (setting : ℤ) (text : List ℕ) (numbers : ℕ) → TextAn
 unfolding expand
 text-answered setting text numbers =
     size-answered text (within 1 longest (length text)) _ λ w.
-    let some = lines-some text (within-bounds 1 longest (length text) w).0 in
-    no_stray_proper text _ (perform_proper (length (lines text)) (lending (setting_of setting) numbers) (without_spaces text) _ (record { from = some; to = omega arith }) (lines_dense text))
+    let more = lines-some text (within-bounds 1 longest (length text) w).0 in
+    no_stray_proper text _ (perform_proper (length (lines text)) (lending (setting_of setting) numbers) (without_spaces text) _ (record { from = more; to = omega arith }) (lines_dense text))
 
 pub refusals_named : RefusalsNamed
-refusals_named setting text numbers number line e = subst (TextAnswered text) e (text-answered setting text numbers)
+refusals_named setting text numbers r e = subst (TextAnswered text) e (text-answered setting text numbers)

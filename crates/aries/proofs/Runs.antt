@@ -1,4 +1,5 @@
 -- Laws of `Ran`: how what a function did is put together from what its callees did.
+use Rattle.std.specs.Prelude.{Err, Ok}
 use mathlib.Core.Path.{◌≡◌, refl, sym, ap, subst, ◌∙◌}
 use mathlib.Core.Bool.{Bool, true, false, cond, ◌&&◌}
 use mathlib.Core.List.{List, [], ◌∷◌, ◌++◌}
@@ -9,16 +10,15 @@ use lib.Dec.{ltb}
 use lib.IntN.{ℤ}
 use lib.ListN.{length, length-append, length-set}
 use Rattle.aries.specs.declared.job.Job.{Job}
-use Rattle.aries.specs.declared.state.Status.{Status}
-use Rattle.aries.specs.declared.state.Status.TheVariants.{Passed, Refused}
-use Rattle.aries.specs.Outcome.{Out, done, refused}
+use Rattle.aries.specs.declared.refusal.Refused.{Refused}
+use Rattle.aries.specs.Outcome.{Out}
 use Rattle.aries.specs.declared.entry.Entry.{Entry}
 use Rattle.aries.specs.Entries.{Made, no_entry, adding, and_then, map_after}
 use Rattle.aries.specs.Test.{within}
 use Rattle.aries.specs.Numbers.{last_tool}
-use Rattle.aries.specs.Runs.{status_of, Lent, lent_both, lent, write, list_put, put, over, Ran}
+use Rattle.aries.specs.Runs.{left_of, Lent, lent_both, lent, write, list_put, put, over, Ran}
 use Rattle.aries.specs.Tallying.{hits_noted, tally_put}
-use Rattle.aries.proofs.Outcomes.{done_injective, refused≢done}
+use Rattle.aries.proofs.Outcomes.{done_injective, refused≢done, err_as}
 
 -- ---- What is lent
 
@@ -61,43 +61,51 @@ over-append l k (e ∷ a) b =
 
 -- ---- What passed was accepted
 
-abbrev pub Done : {A : Type 0} → Out (Made A) → Type 0
-Done {A} out = (m : Made A) × (out ≡ done m)
+pub record Accepted {A : Type 0} (a : A) (out : Out (Made A)) : Type 0 where
+  pub made : Made A
+  pub out_is : out ≡ Ok made
+  pub after_is : made.after ≡ a
 
-pub passed-done : {A : Type 0} (out : Out (Made A)) → Passed ≡ status_of out → Done out
-passed-done (done m) e = (m, refl)
-passed-done (refused number line) e = let z : ◌≡◌ {A = ℕ} 0 1 = cc in absurd (omega arith)
+pub accepted_as : {A : Type 0} (a : A) (out : Out (Made A)) → Ok a ≡ left_of out → Accepted a out
+accepted_as a (Ok m) e = record { made = m; out_is = refl; after_is = done_injective m.after a (sym e) }
+accepted_as a (Err r) e = absurd (refused≢done r a (sym e))
+
+-- what is left is what the definitions leave
+pub left_is : {A : Type 0} {left : A} {out : Out (Made A)} → Ok left ≡ left_of out → (m : Made A) → out ≡ Ok m → left ≡ m.after
+left_is {left = left} same m e = done_injective left m.after (same ∙ ap left_of e)
+
+-- the refusal that is told
+pub refused_out : {A : Type 0} (e : Refused) (out : Out (Made A)) → Err e ≡ left_of out → out ≡ Err e
+refused_out e (Ok m) is = absurd (refused≢done e m.after is)
+refused_out e (Err r) is = ap (λ (x : Refused). Err x) (sym (err_as e r is))
 
 -- ---- What was done, as what is to be done
 
 module _ {A : Type 0} {count : A → ℕ} {job : Job} where
-  -- a refusal leaves what is lent and the result free
-  pub ran-refused :
-      {left : A} {before after : Lent} {k number line : ℕ} → Ran count job (Refused number line) left before after k (refused number line)
-  ran-refused {number = number} {line = line} =
+  -- a refusal leaves what is lent free
+  pub ran-refused : {before after : Lent} {k : ℕ} {e : Refused} → Ran count job (Err e) before after k (Err e)
+  ran-refused {e = e} =
       record {
-        same_status = refl;
-        same_left = λ m e. absurd (refused≢done number line m e);
-        written = λ m e. absurd (refused≢done number line m e);
-        counted = λ m e. absurd (refused≢done number line m e);
-        fitted = λ m e. absurd (refused≢done number line m e);
+        same = refl;
+        written = λ m p. absurd (refused≢done e m p);
+        counted = λ m p. absurd (refused≢done e m p);
+        fitted = λ m p. absurd (refused≢done e m p);
       }
 
   -- entries and a result that are made outright
   pub ran-made :
       {m : Made A} {before after : Lent} {k : ℕ} → after ≡ over before k m.entries → count m.after ≡ k + length m.entries
-      → (k ≤ job.places → count m.after ≤ job.places) → Ran count job Passed m.after before after k (done m)
+      → (k ≤ job.places → count m.after ≤ job.places) → Ran count job (Ok m.after) before after k (Ok m)
   ran-made {m} {before} {after} {k} written counted fitted =
       record {
-        same_status = refl;
-        same_left = λ n e. ap (λ (x : Made A). x.after) (done_injective m n e);
+        same = refl;
         written = λ n e. written ∙ ap (λ (x : Made A). over before k x.entries) (done_injective m n e);
-        counted = λ n e. counted ∙ ap (λ (x : Made A). k + length x.entries) (done_injective m n e);
-        fitted = λ n e. fitted;
+        counted = λ n e. subst (λ (x : Made A). count x.after ≡ k + length x.entries) (done_injective m n e) counted;
+        fitted = λ n e. subst (λ (x : Made A). k ≤ job.places → count x.after ≤ job.places) (done_injective m n e) fitted;
       }
 
   -- no entry is made
-  pub ran_no_entry : {a : A} {l : Lent} → Ran count job Passed a l l (count a) (no_entry a)
+  pub ran_no_entry : {a : A} {l : Lent} → Ran count job (Ok a) l l (count a) (no_entry a)
   unfolding over
   ran_no_entry {a} {l} = ran-made {m = record { entries = []; after = a }} refl (omega arith) (λ h. h)
 
@@ -105,21 +113,17 @@ module _ {A : Type 0} {count : A → ℕ} {job : Job} where
 
   -- a refusal ends it
   pub ran_ended :
-      {first : Out (Made A)} {left left' : A} {before after after' : Lent} {k k' number line : ℕ} (rest : A → Out (Made A))
-      → Ran count job (Refused number line) left before after k first → Ran count job (Refused number line) left' before after' k' (and_then first rest)
-  ran_ended {first} {left} {left'} {before} {after} {after'} {k} {k'} {number} {line} rest h = go first h.same_status
-    where
-      go : (first : Out (Made A)) → Refused number line ≡ status_of first → Ran count job (Refused number line) left' before after' k' (and_then first rest)
-      go (refused number' line') e = rw e ran-refused
-      go (done m) e = let z : ◌≡◌ {A = ℕ} 0 1 = cc in absurd (omega arith)
+      {before after before' after' : Lent} {k k' : ℕ} {e : Refused} (first : Out (Made A)) (rest : A → Out (Made A))
+      → Ran count job (Err e) before after k first → Ran count job (Err e) before' after' k' (and_then first rest)
+  ran_ended {e = e} first rest h = rw (refused_out e first h.same) ran-refused
 
   join :
-      (m : Made A) (out : Out (Made A)) {status : Status} {left : A} {before mid after : Lent} {k : ℕ}
+      (m : Made A) (out : Out (Made A)) {result : Out A} {before mid after : Lent} {k : ℕ}
       → mid ≡ over before k m.entries → count m.after ≡ k + length m.entries → (k ≤ job.places → count m.after ≤ job.places)
-      → Ran count job status left mid after (count m.after) out → Ran count job status left before after k (adding m.entries out)
-  join m (refused number line) w c f h = rw h.same_status ran-refused
-  join m (done n) {left = left} {before} {mid} {after} {k} w c f h =
-      rw (h.same_status, h.same_left n refl) (ran-made {m = record { entries = m.entries ++ n.entries; after = n.after }} written counted fitted)
+      → Ran count job result mid after (count m.after) out → Ran count job result before after k (adding m.entries out)
+  join m (Err e) w c f h = rw h.same ran-refused
+  join m (Ok n) {before = before} {mid} {after} {k} w c f h =
+      rw h.same (ran-made {m = record { entries = m.entries ++ n.entries; after = n.after }} written counted fitted)
     where
       written : after ≡ over before k (m.entries ++ n.entries)
       written =
@@ -128,64 +132,62 @@ module _ {A : Type 0} {count : A → ℕ} {job : Job} where
           ∙ ap (λ (j : ℕ). over (over before k m.entries) j n.entries) c
           ∙ sym (over-append before k m.entries n.entries)
 
-      same : count left ≡ count n.after
-      same = ap count (h.same_left n refl)
-
       counted : count n.after ≡ k + length (m.entries ++ n.entries)
       counted =
-          let e : count left ≡ count m.after + length n.entries = h.counted n refl in
+          let e : count n.after ≡ count m.after + length n.entries = h.counted n refl in
           let a : length (m.entries ++ n.entries) ≡ length m.entries + length n.entries = length-append m.entries n.entries in
-          omega (arith, same)
+          omega arith
 
       fitted : k ≤ job.places → count n.after ≤ job.places
-      fitted r = let g : count left ≤ job.places = h.fitted n refl (f r) in omega (arith, same)
+      fitted r = h.fitted n refl (f r)
 
   -- what passed leads on to the rest
   pub ran_then :
-      {status : Status} {now left : A} {before mid after : Lent} {k : ℕ} (first : Out (Made A)) (rest : A → Out (Made A))
-      → Ran count job Passed now before mid k first → Ran count job status left mid after (count now) (rest now)
-      → Ran count job status left before after k (and_then first rest)
-  ran_then (refused number line) rest h i = let z : ◌≡◌ {A = ℕ} 0 1 = cc h.same_status in absurd (omega arith)
-  ran_then {status} {now} {left} {before} {mid} {after} (done m) rest h i =
-      join m (rest m.after) (h.written m refl)
-      (sym (ap count (h.same_left m refl)) ∙ h.counted m refl)
-      (λ r. subst (λ (a : A). count a ≤ job.places) (h.same_left m refl) (h.fitted m refl r))
-      (subst (λ (a : A). Ran count job status left mid after (count a) (rest a)) (h.same_left m refl) i)
+      {now : A} {result : Out A} {before mid after : Lent} {k : ℕ} (first : Out (Made A)) (rest : A → Out (Made A))
+      → Ran count job (Ok now) before mid k first → Ran count job result mid after (count now) (rest now)
+      → Ran count job result before after k (and_then first rest)
+  ran_then {now} {result} {before} {mid} {after} {k} first rest h i =
+      let a = accepted_as now first h.same in
+      rw a.out_is
+      (join a.made (rest a.made.after) (h.written a.made a.out_is) (h.counted a.made a.out_is) (h.fitted a.made a.out_is)
+      (subst (λ (x : A). Ran count job result mid after (count x) (rest x)) (sym a.after_is) i))
 
 -- ---- The result seen as part of something larger
 
+-- a result, seen so, or the refusal
+abbrev pub mapped : {A B : Type 0} → (A → B) → Out A → Out B
+mapped f (Ok a) = Ok (f a)
+mapped f (Err e) = Err e
+
 pub ran-map :
-    {A B : Type 0} {count_a : A → ℕ} {countB : B → ℕ} {job : Job} {status : Status} {left : A} {before after : Lent} {k : ℕ} (f : A → B)
+    {A B : Type 0} {count_a : A → ℕ} {countB : B → ℕ} {job : Job} {result : Out A} {before after : Lent} {k : ℕ} (f : A → B)
     → ((a : A) → countB (f a) ≡ count_a a) → (out : Out (Made A))
-    → Ran count_a job status left before after k out → Ran countB job status (f left) before after k (map_after f out)
-ran-map f same (refused number line) h = rw h.same_status ran-refused
-ran-map {count_a = count_a} {countB} {job} {left = left} f same (done m) h =
-    rw (h.same_status, h.same_left m refl)
+    → Ran count_a job result before after k out → Ran countB job (mapped f result) before after k (map_after f out)
+ran-map f same (Err e) h = rw h.same ran-refused
+ran-map {count_a = count_a} {countB} {job} {k = k} f same (Ok m) h =
+    rw h.same
     (ran-made {m = record { entries = m.entries; after = f m.after }} (h.written m refl)
-    (here ∙ h.counted m refl)
-    (λ r. let g : count_a left ≤ job.places = h.fitted m refl r in omega (arith, here)))
-  where
-    here : countB (f m.after) ≡ count_a left
-    here = same m.after ∙ sym (ap count_a (h.same_left m refl))
+    (same m.after ∙ h.counted m refl)
+    (λ r. let g : count_a m.after ≤ job.places = h.fitted m refl r in let e = same m.after in omega (arith, e)))
 
 -- nothing done and then the rest is the rest
 pub no_entry_then : {A : Type 0} (a : A) (f : A → Out (Made A)) → and_then (no_entry a) f ≡ f a
 no_entry_then {A} a f = go (f a)
   where
     go : (out : Out (Made A)) → adding [] out ≡ out
-    go (done m) = refl
-    go (refused number line) = refl
+    go (Ok m) = refl
+    go (Err e) = refl
 
 -- ---- Loops: whoever does what is left, from this place on, has done the whole
 
 abbrev pub Leads : {A : Type 0} → (A → ℕ) → Job → Lent → ℕ → Out (Made A) → Lent → ℕ → Out (Made A) → Type 0
 Leads {A} count job l k rest l₀ k₀ whole =
-    (status : Status) (left : A) (after : Lent) → Ran count job status left l after k rest → Ran count job status left l₀ after k₀ whole
+    (result : Out A) (after : Lent) → Ran count job result l after k rest → Ran count job result l₀ after k₀ whole
 
 module _ {A : Type 0} {count : A → ℕ} {job : Job} {l₀ : Lent} {k₀ : ℕ} {whole : Out (Made A)} where
   -- at the start all is left
   pub leads-start : {rest : Out (Made A)} → rest ≡ whole → Leads count job l₀ k₀ rest l₀ k₀ whole
-  leads-start e status left after h = rw e at h
+  leads-start e result after h = rw e at h
 
   -- what is left, by another name
   pub leads_as :
@@ -194,40 +196,23 @@ module _ {A : Type 0} {count : A → ℕ} {job : Job} {l₀ : Lent} {k₀ : ℕ}
 
   -- a turn that passed
   pub leads_on :
-      {now : A} {l mid : Lent} {k : ℕ} (first : Out (Made A)) (rest : A → Out (Made A)) → Ran count job Passed now l mid k first
+      {now : A} {l mid : Lent} {k : ℕ} (first : Out (Made A)) (rest : A → Out (Made A)) → Ran count job (Ok now) l mid k first
       → Leads count job l k (and_then first rest) l₀ k₀ whole → Leads count job mid (count now) (rest now) l₀ k₀ whole
-  leads_on first rest ran lead status left after h = lead status left after (ran_then first rest ran h)
+  leads_on first rest ran lead result after h = lead result after (ran_then first rest ran h)
 
   -- a turn that was refused
   pub leads_out :
-      {first : Out (Made A)} {left : A} {l after : Lent} {k number line : ℕ} (rest : A → Out (Made A)) → Ran count job (Refused number line) left l after k first
-      → Leads count job l k (and_then first rest) l₀ k₀ whole → Ran count job (Refused number line) left l₀ after k₀ whole
-  leads_out {left = left} {after = after} {number = number} {line} rest ran lead = lead (Refused number line) left after (ran_ended rest ran)
+      {l after : Lent} {k : ℕ} {e : Refused} (first : Out (Made A)) (rest : A → Out (Made A)) → Ran count job (Err e) l after k first
+      → Leads count job l k (and_then first rest) l₀ k₀ whole → Ran count job (Err e) l₀ after k₀ whole
+  leads_out {after = after} {e = e} first rest ran lead = lead (Err e) after (ran_ended first rest ran)
 
   -- nothing is left
-  pub leads_end : {now : A} {l : Lent} → Leads count job l (count now) (no_entry now) l₀ k₀ whole → Ran count job Passed now l₀ l k₀ whole
-  leads_end {now} {l} lead = lead Passed now l ran_no_entry
+  pub leads_end : {now : A} {l : Lent} → Leads count job l (count now) (no_entry now) l₀ k₀ whole → Ran count job (Ok now) l₀ l k₀ whole
+  leads_end {now} {l} lead = lead (Ok now) l ran_no_entry
 
--- ---- A status that is told
+-- ---- A result that is told
 
-pub status_as :
-    {A : Type 0} {count : A → ℕ} {job : Job} {status : Status} {left : A} {before after : Lent} {k : ℕ} {out : Out (Made A)} {number line : ℕ} → status ≡ Refused number line
-    → Ran count job status left before after k out → Ran count job (Refused number line) left before after k out
-status_as e ran = rw e at ran
-
-pub passed_as :
-    {A : Type 0} {count : A → ℕ} {job : Job} {status : Status} {left : A} {before after : Lent} {k : ℕ} {out : Out (Made A)} → status ≡ Passed
-    → Ran count job status left before after k out → Ran count job Passed left before after k out
-passed_as e ran = rw e at ran
-
--- the refusal that is told
-pub refused_out : {A : Type 0} (out : Out (Made A)) {number line : ℕ} → Refused number line ≡ status_of out → out ≡ refused number line
-refused_out (refused n k) {number} {line} e = let a : number ≡ n = cc in let b : line ≡ k = cc in rw (a, b)
-refused_out (done m) e = let z : ◌≡◌ {A = ℕ} 0 1 = cc in absurd (omega arith)
-
--- a refusal is one, whatever its result would be seen as
-pub refused-map :
-    {A : Type 0} {count : A → ℕ} {job : Job} {left : A} {before after : Lent} {k number line : ℕ} (f : A → A) (out : Out (Made A))
-    → Ran count job (Refused number line) left before after k out → Ran count job (Refused number line) left before after k (map_after f out)
-refused-map f (refused number line) h = rw h.same_status ran-refused
-refused-map f (done m) h = let z : ◌≡◌ {A = ℕ} 0 1 = cc h.same_status in absurd (omega arith)
+pub ran_as :
+    {A : Type 0} {count : A → ℕ} {job : Job} {result result' : Out A} {before after : Lent} {k : ℕ} {out : Out (Made A)} → result ≡ result'
+    → Ran count job result before after k out → Ran count job result' before after k out
+ran_as e ran = rw e at ran

@@ -1,8 +1,8 @@
 -- At setting 1 words are in hundredths as they are written, so that it is document 01; and a text has one setting.
+use Rattle.std.specs.Prelude.{Option, Some, None, option_map}
 use mathlib.Core.Path.{◌≡◌, refl, ap, ◌∙◌}
 use mathlib.Core.Bool.{Bool, true, false, cond}
 use mathlib.Core.List.{List, [], ◌∷◌}
-use mathlib.Core.Option.{Option, none, some}
 use Prim.Native.Nat.{ℕ}
 use lib.IntN.{ℤ, pos}
 use lib.ListN.{set}
@@ -19,7 +19,7 @@ use Rattle.aries.specs.declared.word.Word.{Word}
 use Rattle.aries.specs.Letters.{index_of}
 use Rattle.aries.specs.Text.{bytes}
 use Rattle.aries.specs.Words.{LetterWord, words}
-use Rattle.aries.specs.ByLetter.{Letters, at, no_word, by_letter}
+use Rattle.aries.specs.ByLetter.{Letters, at, by_letter}
 use Rattle.aries.specs.Forms.{kind_of}
 use Rattle.aries.specs.Numbers.{length_of, with_value, lengths_of, word_in_hundredths, letters_in_hundredths, in_hundredths, lengths_fit}
 use Rattle.aries.specs.Reader.{setting_of, reader_at}
@@ -47,16 +47,17 @@ length-written v = go v.pointed
     go true = refl
     go false = refl
 
-word-written : (v : Word) → word_in_hundredths Hundredths v ≡ v
-word-written v = ap (with_value v) (length-written v)
+word-written : (o : Option Word) → option_map (word_in_hundredths Hundredths) o ≡ o
+word-written None = refl
+word-written (Some v) = ap (λ (z : ℤ). Some (with_value v z)) (length-written v)
 
 -- and so are all words
 letters-written : (ls : List ℕ) (w : Letters) → letters_in_hundredths Hundredths w ls ≡ w
 letters-written [] w = refl
 letters-written (l ∷ ls) w =
-    letters-written ls (set w (index_of l) (word_in_hundredths Hundredths (at w l)))
+    letters-written ls (set w (index_of l) (option_map (word_in_hundredths Hundredths) (at w l)))
     ∙ ap (set w (index_of l)) (word-written (at w l))
-    ∙ set-get_or w (index_of l) no_word
+    ∙ set-get_or w (index_of l) None
 
 pub hundredths-written : (k : Kind) (w : Letters) → in_hundredths Hundredths k w ≡ w
 unfolding in_hundredths
@@ -81,8 +82,8 @@ unfolding decode
 decoded-written given l = go (words l)
   where
     go : (o : Option (List LetterWord)) → decoded (reader_at Hundredths given) o ≡ base_decoded given o
-    go none = refl
-    go (some ws) = words-written given ws
+    go None = refl
+    go (Some ws) = words-written given ws
 
 begins-written :
     (j : Judging) (f : Frame) (line : ℕ) (l : List ℕ) (g : Progress) → f.job.setting ≡ Hundredths → begin j f line l g ≡ base_begin j line l g

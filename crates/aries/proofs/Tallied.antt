@@ -1,5 +1,6 @@
 -- Laws of `Ran` where the tally is lent too: the list of something carried out with the list alone, and the tally with its hits
 -- counted. They have one tool, or there are none.
+use Rattle.std.specs.Prelude.{Ok}
 use mathlib.Core.Path.{◌≡◌, refl, sym, ap, ◌∙◌}
 use mathlib.Core.Bool.{true, true≢false}
 use mathlib.Core.List.{List, [], ◌∷◌, ◌++◌, append-nil, append_assoc}
@@ -10,8 +11,7 @@ use lib.IntN.{ℤ}
 use lib.ListN.{length, length-append}
 use Rattle.aries.specs.declared.job.Job.{Job}
 use Rattle.aries.specs.declared.entry.Entry.{Entry}
-use Rattle.aries.specs.declared.state.Status.{Status}
-use Rattle.aries.specs.Outcome.{Out, done}
+use Rattle.aries.specs.Outcome.{Out}
 use Rattle.aries.specs.Entries.{Made, hits_in}
 use Rattle.aries.specs.Tally.{is_hit_by, tally_of}
 use Rattle.aries.specs.Runs.{Lent, lent_both, lent, list_put, over, Ran}
@@ -66,14 +66,13 @@ over-tally l a (e ∷ es) short =
 -- ---- What was done
 
 module _
-    {A : Type 0} {count : A → ℕ} {job : Job} {status : Status} {left : A} {l l' : List ℤ} {k : ℕ} {out : Out (Made A)}
-    (ran : Ran count job status left (lent l) (lent l') k out) (t : List ℕ) where
+    {A : Type 0} {count : A → ℕ} {job : Job} {result : Out A} {l l' : List ℤ} {k : ℕ} {out : Out (Made A)}
+    (ran : Ran count job result (lent l) (lent l') k out) (t : List ℕ) where
   -- with the tally as its entries leave it
-  ran_with : (t' : List ℕ) → ((m : Made A) → out ≡ done m → (over (lent_both l t) k m.entries).tally ≡ t') → Ran count job status left (lent_both l t) (lent_both l' t') k out
+  ran_with : (t' : List ℕ) → ((m : Made A) → out ≡ Ok m → (over (lent_both l t) k m.entries).tally ≡ t') → Ran count job result (lent_both l t) (lent_both l' t') k out
   ran_with t' tally =
       record {
-        same_status = ran.same_status;
-        same_left = ran.same_left;
+        same = ran.same;
         written = λ m e.
             ap (λ (r : List ℤ). lent_both r t') (ap (λ (r : Lent). r.list) (ran.written m e) ∙ sym (over-list l t k m.entries))
             ∙ ap (lent_both (over (lent_both l t) k m.entries).list) (sym (tally m e));
@@ -81,14 +80,14 @@ module _
         fitted = ran.fitted;
       }
 
-  -- its entries are hits with one tool
+  -- its entries are hits with one tool, up to a count of them
   pub ran_hits :
-      (tool : ℕ) → ((m : Made A) → out ≡ done m → AllBy tool m.entries)
-      → Ran count job status left (lent_both l t) (lent_both l' (with_hits t tool k (count left))) k out
-  ran_hits tool all =
-      ran_with (with_hits t tool k (count left)) λ m e.
-      over_hits l t tool k m.entries (all m e) ∙ ap (λ (n : ℕ). with_hits t tool k n) (sym (ran.counted m e))
+      (tool to : ℕ) → ((m : Made A) → out ≡ Ok m → AllBy tool m.entries) → ((m : Made A) → out ≡ Ok m → to ≡ count m.after)
+      → Ran count job result (lent_both l t) (lent_both l' (with_hits t tool k to)) k out
+  ran_hits tool to all upto =
+      ran_with (with_hits t tool k to) λ m e.
+      over_hits l t tool k m.entries (all m e) ∙ ap (λ (n : ℕ). with_hits t tool k n) (sym (ran.counted m e) ∙ sym (upto m e))
 
   -- or there are none among them
-  pub ran_no_hits : ((m : Made A) → out ≡ done m → hits_in m.entries ≡ []) → Ran count job status left (lent_both l t) (lent_both l' t) k out
+  pub ran_no_hits : ((m : Made A) → out ≡ Ok m → hits_in m.entries ≡ []) → Ran count job result (lent_both l t) (lent_both l' t) k out
   ran_no_hits none = ran_with t (λ m e. over_no_hits l t k m.entries (none m e))

@@ -1,6 +1,7 @@
 -- T in a block that 6 has passed: it is at most 99, and 0 where it is not written.
-use mathlib.Core.Path.{◌≡◌, refl, sym, ◌∙◌}
-use mathlib.Core.Bool.{Bool, true, false, true≢false, cond}
+use Rattle.std.specs.Prelude.{Some, unwrap_or}
+use mathlib.Core.Path.{◌≡◌, refl}
+use mathlib.Core.Bool.{Bool, true, false, cond}
 use mathlib.Core.List.{List, [], ◌∷◌}
 use Prim.Native.Nat.{ℕ, ◌≤◌}
 use native.Mathlib.Omega.{arith}
@@ -15,12 +16,9 @@ use Rattle.aries.specs.declared.block.Kind.TheVariants as kind
 use Rattle.aries.specs.declared.reader.Setting.{Setting}
 use Rattle.aries.specs.Letters.{letter_t, letter_m}
 use Rattle.aries.specs.Test.{every}
-use Rattle.aries.specs.Text.{bytes}
-use Rattle.aries.specs.Words.{LetterWord}
-use Rattle.aries.specs.ByLetter.{lookup, m_codes, Letters, at, code_of, by_letter}
-use Rattle.aries.specs.Numbers.{last_tool, lengths_of, in_hundredths, is_ranged}
+use Rattle.aries.specs.ByLetter.{row, lookup, m_codes, Letters}
+use Rattle.aries.specs.Numbers.{last_tool, in_hundredths, is_ranged}
 use Rattle.aries.specs.Blocks.{count, block_of}
-use Rattle.aries.proofs.Words.{AllWords, IsWritten, ZeroIfAbsent, by_letter-each, letters-hundredths}
 use Rattle.aries.proofs.Ranges.{common_limit}
 
 -- the T of a direct block; 0 if it has none
@@ -49,7 +47,7 @@ row_fits : (rs : List (ℕ × Direct)) (n : ℕ) → every (λ r. leb (tool_of r
 row_fits [] n h = omega arith
 row_fits (r ∷ rs) n h = go (eqb n r.0) (row_fits rs n (and_right (leb (tool_of r.1) last_tool) _ h))
   where
-    go : (t : Bool) → DirectFits (lookup rs n Idle) → DirectFits (cond t r.1 (lookup rs n Idle))
+    go : (t : Bool) → DirectFits (lookup rs n Idle) → DirectFits (unwrap_or (cond t (Some r.1) (row rs n)) Idle)
     go true rest = leb-true (tool_of r.1) last_tool (and_left (leb (tool_of r.1) last_tool) _ h)
     go false rest = rest
 
@@ -74,18 +72,13 @@ module _ (w : Letters) (h : count w letter_t ≤ last_tool) where
   block-fits kind.G98 = tt
   block-fits kind.Position = h
   block-fits kind.Lone = omega arith
-  block-fits kind.LetterM = row_fits m_codes (code_of (at w letter_m)) refl
+  block-fits kind.LetterM = row_fits m_codes (count w letter_m) refl
   block-fits kind.LetterB = omega arith
   block-fits kind.LetterU = tt
   block-fits kind.LetterV = tt
   block-fits kind.LetterW = tt
   block-fits kind.Unknown = omega arith
 
--- That it is past 6, whose range for T ends there; a T that is not written is 0, and in hundredths too.
-pub words_fit :
-    (s : Setting) (k : Kind) (ws : List LetterWord) → AllWords IsWritten ws → is_ranged (in_hundredths s k (by_letter ws).letters) k ≡ true
-    → BlockFits (block_of (in_hundredths s k (by_letter ws).letters) k)
-unfolding in_hundredths
-words_fit s k ws written ranged =
-    let absent = by_letter-each ZeroIfAbsent (λ _. refl) (λ r e f. absurd (true≢false (sym e ∙ f))) ws written in
-    block-fits _ (common_limit _ (letters-hundredths s (bytes (lengths_of k)) (by_letter ws).letters absent) k ranged letter_t last_tool refl) k
+-- That it is past 6, whose range for T ends there; a T that is not written is 0.
+pub words_fit : (s : Setting) (k : Kind) (w : Letters) → is_ranged (in_hundredths s k w) k ≡ true → BlockFits (block_of (in_hundredths s k w) k)
+words_fit s k w ranged = block-fits (in_hundredths s k w) (common_limit (in_hundredths s k w) k ranged letter_t last_tool refl) k

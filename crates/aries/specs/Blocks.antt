@@ -1,13 +1,14 @@
 -- Blocks: what the words of a block ask for. (Document 01, "Moving and punching", "Patterns", "Macros and layouts"; document 02,
 -- §2 and §5; refusals 4, 5 and 6, each of which looks at the whole block before the next does.)
-use Rattle.std.specs.Prelude.{Bool, true, false, cond, ◌&&◌, List, ℕ, ◌+◌, ℤ, pos, nat_abs}
-use Rattle.std.proofs.Math.Option.{Option, none, some}
+use Rattle.std.specs.Prelude.{Bool, true, false, cond, ◌&&◌, List, ℕ, ◌+◌, ℤ, pos, nat_abs, Err, Ok, Option, Some, None, Result, unwrap_or, option_map}
 use Rattle.std.specs.Int.Signed.{lt_z}
 use Rattle.sine.specs.Sine.{turn}
+use Rattle.aries.specs.declared.refusal.Refusal.{Refusal}
+use Rattle.aries.specs.declared.refusal.Refusal.TheVariants.{WordForm, NotListed, WrongNumber}
 use Rattle.aries.specs.declared.point.Point.{Point}
+use Rattle.aries.specs.declared.word.Word.{Word}
 use Rattle.aries.specs.declared.block.Kind.{Kind}
 use Rattle.aries.specs.declared.block.Kind.TheVariants.{G26, G28, G29, G36, G37, G50, G70, G72, G75, G76, G92, G93, G98, Position, Lone, LetterM, LetterB, LetterU, LetterV, LetterW, Unknown, G66, G73}
-use Rattle.aries.specs.declared.block.Axis.{Axis}
 use Rattle.aries.specs.declared.block.Axes.{Axes}
 use Rattle.aries.specs.declared.block.Steps.{Steps}
 use Rattle.aries.specs.declared.block.Pattern.{Pattern}
@@ -26,17 +27,21 @@ use Rattle.aries.specs.declared.block.Instruction.{Instruction}
 use Rattle.aries.specs.declared.reader.Setting.{Setting}
 use Rattle.aries.specs.declared.reader.Reader.{Reader}
 use Rattle.aries.specs.Letters.{letter_a, letter_b, letter_d, letter_i, letter_j, letter_k, letter_m, letter_p, letter_q, letter_t, letter_u, letter_v, letter_w, letter_x, letter_y}
-use Rattle.aries.specs.Outcome.{Checked, passes, fails}
 use Rattle.aries.specs.Words.{LetterWord, words}
-use Rattle.aries.specs.ByLetter.{lookup, m_codes, Letters, at, has, Words, code_of, by_letter}
+use Rattle.aries.specs.ByLetter.{lookup, m_codes, Letters, at, by_letter}
+use Rattle.aries.specs.declared.word.Words.{Words}
 use Rattle.aries.specs.Forms.{in_places, kind_of, is_listed}
 use Rattle.aries.specs.Numbers.{in_hundredths, lengths_fit, is_ranged}
 
 -- ---- What a block asks for
 
+-- the number of a letter, where it is written
+abbrev pub written : Letters → ℕ → Option ℤ
+written w letter = option_map (λ (v : Word). v.value) (at w letter)
+
 -- a length or an angle, in hundredths; 0 if it is absent
 abbrev pub number : Letters → ℕ → ℤ
-number w letter = (at w letter).value
+number w letter = unwrap_or (written w letter) (pos 0)
 
 -- the size of a length of G98, which 6 has found not negative
 abbrev pub size : Letters → ℕ → ℕ
@@ -44,15 +49,11 @@ size w letter = nat_abs (number w letter)
 
 -- a whole number; 0 if it is absent (6 has refused a T or an A that is written with 0)
 abbrev pub count : Letters → ℕ → ℕ
-count w letter = nat_abs (at w letter).value
+count w letter = nat_abs (number w letter)
 
--- X or Y, where it is written
-abbrev pub axis : Letters → ℕ → Axis
-axis w letter = record { written = has w letter; value = number w letter }
-
--- both axes
+-- X and Y, where they are written
 abbrev pub axes : Letters → Axes
-axes w = record { x = axis w letter_x; y = axis w letter_y }
+axes w = record { x = written w letter_x; y = written w letter_y }
 
 -- P and K as steps
 abbrev pub steps : Letters → Steps
@@ -89,7 +90,7 @@ arc_pattern w = Arc (number w letter_i) (number w letter_j) (number w letter_p) 
 
 -- G26; K negative is clockwise
 abbrev pub circle_pattern : Letters → Pattern
-circle_pattern w = Circle (number w letter_i) (number w letter_j) (lt_z (at w letter_k).value (pos 0)) (count w letter_k)
+circle_pattern w = Circle (number w letter_i) (number w letter_j) (lt_z (number w letter_k) (pos 0)) (count w letter_k)
 
 -- G36, or with vertical G37
 abbrev pub grid_pattern : Bool → Letters → Pattern
@@ -101,7 +102,7 @@ shear w =
     record {
       length = number w letter_i;
       along = number w letter_p;
-      across = cond (has w letter_q) (number w letter_q) (number w letter_p);
+      across = unwrap_or (written w letter_q) (number w letter_p);
       compensation = number w letter_d;
     }
 
@@ -138,7 +139,7 @@ block_of w G93 = Block.Outside (outside.Offset (axes w))
 block_of w G98 = Block.Outside (outside.Layout (layout w))
 block_of w Position = Block.Direct (direct.Punch (axes w) (count w letter_t))
 block_of w Lone = Block.Direct direct.Lone
-block_of w LetterM = m_block (code_of (at w letter_m))
+block_of w LetterM = m_block (count w letter_m)
 block_of w LetterB = Block.Direct (direct.Recall (count w letter_b))
 block_of w LetterU = Block.Outside (outside.Open (count w letter_u))
 block_of w LetterV = Block.Outside (outside.Close (count w letter_v))
@@ -146,29 +147,29 @@ block_of w LetterW = Block.Call (call.Plain (count w letter_w))
 block_of w Unknown = Block.Direct direct.Idle
 
 -- what a block of a kind asks for, with its G90 or G91, from words in hundredths
-abbrev pub instruction_of : Kind → Measure → Letters → Instruction
+abbrev pub instruction_of : Kind → Option Measure → Letters → Instruction
 instruction_of k m w = record { measure = m; block = block_of w k }
 
 -- 6: at setting 0 no length or angle passes the limit; and all numbers, lengths and angles in hundredths, are in their ranges
-abbrev pub ranged : Setting → Kind → Measure → Letters → Checked Instruction
+abbrev pub ranged : Setting → Kind → Option Measure → Letters → Result Instruction Refusal
 ranged s k m w =
     let h : Letters = in_hundredths s k w in
-    cond (lengths_fit s k w && is_ranged h k) (passes (instruction_of k m h)) (fails 6)
+    cond (lengths_fit s k w && is_ranged h k) (Ok (instruction_of k m h)) (Err WrongNumber)
 
 -- the instruction of a block from its words: 5, then 6
-unfoldable pub decode_words : Reader → List LetterWord → Checked Instruction
+unfoldable pub decode_words : Reader → List LetterWord → Result Instruction Refusal
 unfolding by_letter in_places kind_of is_listed in_hundredths lengths_fit is_ranged block_of
 decode_words r ws =
     let w : Words = by_letter ws in
     let k : Kind = kind_of w in
-    cond (in_places ws && is_listed r.given w k) (ranged r.setting k w.measure w.letters) (fails 5)
+    cond (in_places ws && is_listed r.given w k) (ranged r.setting k w.measure w.letters) (Err NotListed)
 
 -- 4, and then the words
-abbrev pub decoded : Reader → Option (List LetterWord) → Checked Instruction
-decoded r none = fails 4
-decoded r (some ws) = decode_words r ws
+abbrev pub decoded : Reader → Option (List LetterWord) → Result Instruction Refusal
+decoded r None = Err WordForm
+decoded r (Some ws) = decode_words r ws
 
 -- the instruction of a line: 4, then 5 and 6
-unfoldable pub decode : Reader → List ℕ → Checked Instruction
+unfoldable pub decode : Reader → List ℕ → Result Instruction Refusal
 unfolding words decode_words
 decode r bs = decoded r (words bs)

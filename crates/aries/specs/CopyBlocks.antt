@@ -1,7 +1,7 @@
 -- Demand 3 speaks of runs that demand 2 describes: what a program does with a line that asks for G75 or G76 and that 3 to 7
 -- do not refuse is a run in the circumstances that the program has reached, the block itself being counted; and the origin
 -- that the run finds is reference plus offset.
-use Rattle.std.specs.Prelude.{◌≡◌, true, List, ◌∷◌, ℕ, suc, ◌+◌, length}
+use Rattle.std.specs.Prelude.{◌≡◌, true, List, ◌∷◌, ℕ, suc, ◌+◌, length, Ok, Some}
 use Rattle.aries.specs.declared.block.Copies.{Copies}
 use Rattle.aries.specs.declared.block.Outside.TheVariants.{Copy}
 use Rattle.aries.specs.declared.block.Block.TheVariants.{Outside}
@@ -9,11 +9,9 @@ use Rattle.aries.specs.declared.block.Instruction.{Instruction}
 use Rattle.aries.specs.declared.job.Job.{Job}
 use Rattle.aries.specs.declared.point.Point.{Point}
 use Rattle.aries.specs.declared.block.Layout.{Layout}
-use Rattle.aries.specs.declared.setup.Sheet.TheVariants.{LaidOut}
 use Rattle.aries.specs.declared.setup.Setup.{Setup}
 use Rattle.aries.specs.declared.setup.Stage.TheVariants.{Running}
 use Rattle.aries.specs.declared.setup.Program.{Program}
-use Rattle.aries.specs.Outcome.{done, passes}
 use Rattle.aries.specs.Text.{lines}
 use Rattle.aries.specs.Entries.{Made, map_after}
 use Rattle.aries.specs.Judging.{limits}
@@ -43,7 +41,7 @@ circumstances text line k p =
 abbrev pub CopyLinesRun : Type 0
 CopyLinesRun =
     (text : List ℕ) (next line : ℕ) (l : List ℕ) (ls : List (List ℕ)) (p : Program) (i : Instruction) (k : Copies)
-    → p.stage ≡ Running → may_come (limits p.setup.job) l p.progress ≡ true → decode (reader_of (ordinary_frame p.setup) p.progress.state) l ≡ passes i → i.block ≡ Outside (Copy k)
+    → p.stage ≡ Running → may_come (limits p.setup.job) l p.progress ≡ true → decode (reader_of (ordinary_frame p.setup) p.progress.state) l ≡ Ok i → i.block ≡ Outside (Copy k)
     → run_line_outside (limits p.setup.job) text next line l ls p
     ≡ map_after (with_progress p) (run k.vertical (circumstances text line k (with_progress p (begun (is_counted l) i.measure p.progress))))
 
@@ -55,7 +53,7 @@ pub data Reached (job : Job) (text : List ℕ) : ℕ → ℕ → List (List ℕ)
   start : Reached job text 0 1 (lines text) (fresh_program job)
   next :
       {at line : ℕ} {l : List ℕ} {ls : List (List ℕ)} {p : Program} {m : Made Program} → Reached job text at line (l ∷ ls) p
-      → run_line_outside (limits job) text (at + length l + 1) line l ls p ≡ done m → Reached job text (at + length l + 1) (suc line) ls m.after
+      → run_line_outside (limits job) text (at + length l + 1) line l ls p ≡ Ok m → Reached job text (at + length l + 1) (suc line) ls m.after
 
 -- the origin is reference plus offset
 abbrev pub Ordinary : Setup → Type 0
@@ -71,5 +69,5 @@ ReachedOrdinary =
 -- CopyRuns has it.
 abbrev pub OriginMoves : Type 0
 OriginMoves =
-    (v : Point) (s t : Setup) (l : Layout) → s.sheet ≡ LaidOut l → moved_sheet v s.sheet ≡ t.sheet → s.offset ≡ t.offset
+    (v : Point) (s t : Setup) (l : Layout) → s.sheet ≡ Some l → moved_sheet v s.sheet ≡ t.sheet → s.offset ≡ t.offset
     → Ordinary s → Ordinary t → s.origin ⊕ v ≡ t.origin

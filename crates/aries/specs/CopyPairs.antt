@@ -1,6 +1,6 @@
 -- A pair of programs that the statements of demand 3 compare: two texts that call one part, the one by G75 and the other
 -- by G76.
-use Rattle.std.specs.Prelude.{◌≡◌, Bool, true, false, List, ◌∷◌, ◌++◌, ℕ}
+use Rattle.std.specs.Prelude.{◌≡◌, Bool, true, false, List, ◌∷◌, ◌++◌, ℕ, Ok}
 use Prim.Native.String.{String}
 use Rattle.aries.specs.declared.block.Copies.{Copies}
 use Rattle.aries.specs.declared.block.Outside.TheVariants.{Copy}
@@ -9,7 +9,6 @@ use Rattle.aries.specs.declared.block.Instruction.{Instruction}
 use Rattle.aries.specs.declared.job.Job.{Job}
 use Rattle.aries.specs.declared.reader.Setting.TheVariants.{Hundredths}
 use Rattle.aries.specs.declared.setup.Program.{Program}
-use Rattle.aries.specs.Outcome.{passes}
 use Rattle.aries.specs.Text.{bytes}
 use Rattle.aries.specs.Judging.{lending}
 use Rattle.aries.specs.Blocks.{decode}
@@ -29,7 +28,7 @@ pub record ComesTo (job : Job) (text : List ℕ) (vertical : Bool) (c : Circumst
   pub program : Program
   pub reached : Reached job text at line (block ∷ after) program
   pub instruction : Instruction
-  pub decoded : decode (reader_of (ordinary_frame program.setup) program.progress.state) block ≡ passes instruction
+  pub decoded : decode (reader_of (ordinary_frame program.setup) program.progress.state) block ≡ Ok instruction
   pub copies : Copies
   pub asks : instruction.block ≡ Outside (Copy copies)
   pub order : copies.vertical ≡ vertical

@@ -1,14 +1,12 @@
 -- Demand 3: what G75 and G76 make of a part, for every part, layout, starting corner and state before. The words are
 -- those of document 01, "For demand 3, a run is ..".
-use Rattle.std.specs.Prelude.{◌≡◌, ◌↔◌, Bool, true, false, cond, ◌||◌, List, [], ◌++◌, map, ℕ, zero, suc, ◌+◌, ◌-◌, ◌*◌, ◌/◌, ◌%◌, eqb, ℤ, pos, ◌+ℤ◌, ◌-ℤ◌}
-use Rattle.std.proofs.Math.Option.{Option, none, some}
+use Rattle.std.specs.Prelude.{◌≡◌, ◌↔◌, Bool, true, false, cond, ◌||◌, List, [], ◌++◌, map, ℕ, zero, suc, ◌+◌, ◌-◌, ◌*◌, ◌/◌, ◌%◌, eqb, ℤ, pos, ◌+ℤ◌, ◌-ℤ◌, Err, None, Ok, Option, Some}
+use Rattle.aries.specs.declared.refusal.Refusal.TheVariants.{NotStored}
 use Rattle.aries.specs.declared.point.Point.{Point}
 use Rattle.aries.specs.declared.block.Layout.{Layout}
-use Rattle.aries.specs.declared.setup.Sheet.{Sheet}
-use Rattle.aries.specs.declared.setup.Sheet.TheVariants.{Plain, LaidOut}
 use Rattle.aries.specs.declared.setup.Setup.{Setup}
 use Rattle.aries.specs.declared.state.Progress.{Progress}
-use Rattle.aries.specs.Outcome.{Out, done, refused}
+use Rattle.aries.specs.Outcome.{Out, refused}
 use Rattle.aries.specs.declared.entry.Hit.{Hit}
 use Rattle.aries.specs.declared.entry.Entry.{Entry}
 use Rattle.aries.specs.Entries.{hits_in, hit_placed, placed_by, Made}
@@ -44,22 +42,22 @@ by_g76 c = run true c
 
 -- accepted: none of it is refused
 abbrev pub Accepted : Out (Made Progress) → Type 0
-Accepted out = (m : Made Progress) × (out ≡ done m)
+Accepted out = (m : Made Progress) × (out ≡ Ok m)
 
 -- the entries that it adds to the list
 abbrev pub entries_of : Out (Made Progress) → List Entry
-entries_of (done m) = m.entries
-entries_of (refused number line) = []
+entries_of (Ok m) = m.entries
+entries_of (Err e) = []
 
 -- which body is stored, if one is, wherever it stands in its text
 abbrev pub bytes_of : Option Body → Option (List ℕ)
-bytes_of none = none
-bytes_of (some b) = some b.bytes
+bytes_of None = None
+bytes_of (Some b) = Some b.bytes
 
 -- the part, if it is stored
 abbrev pub called : Judging → Circumstances → Option Body → Part
-called j c none f g = refused 10 c.line
-called j c (some b) f g = part_of j c.bodies b f g
+called j c None f g = refused NotStored c.line
+called j c (Some b) f g = part_of j c.bodies b f g
 
 -- The part's own entries: those it makes when the block calls it once from the state found, with origin and current point
 -- at (0, 0), no pattern origin waiting, and 3, 15, 16 and 17 not judged.
@@ -151,9 +149,9 @@ pub record AllAlike (c d : Circumstances) : Type 0 where
   pub free : free_places c ≡ free_places d
 
 -- the reference point moved by a vector
-abbrev pub moved_sheet : Point → Sheet → Sheet
-moved_sheet v Plain = Plain
-moved_sheet v (LaidOut l) = LaidOut (record { reference = l.reference ⊕ v; pitch = l.pitch; steps = l.steps })
+abbrev pub moved_sheet : Point → Option Layout → Option Layout
+moved_sheet v None = None
+moved_sheet v (Some l) = Some (record { reference = l.reference ⊕ v; pitch = l.pitch; steps = l.steps })
 
 -- The second run has its reference point moved by a vector; the origin, reference plus offset, moves along. Nothing else in
 -- the call or the state before is changed; block count and free places are no part of the state.
@@ -180,14 +178,14 @@ pub data Alike (l : Layout) (own : List Entry) : Type 0 where
 -- column, or both pitches are zero, or the part makes no hit.
 abbrev pub EqualExactlyWhen : Type 0
 EqualExactlyWhen =
-    (c d : Circumstances) (l : Layout) → AllAlike c d → c.setup.sheet ≡ LaidOut l → Accepted (by_g75 c) → Accepted (by_g76 d)
+    (c d : Circumstances) (l : Layout) → AllAlike c d → c.setup.sheet ≡ Some l → Accepted (by_g75 c) → Accepted (by_g76 d)
     → (entries_of (by_g75 c) ≡ entries_of (by_g76 d)) ↔ Alike l (own_entries c)
 
 -- The part of every accepted run is accepted by itself, and the entries of the run are the part's own entries, copy after
 -- copy: in each copy the hits moved to its place of the layout, and the stops as they were.
 abbrev pub LayoutSentence : Type 0
 LayoutSentence =
-    (vertical : Bool) (c : Circumstances) (l : Layout) → c.setup.sheet ≡ LaidOut l → Accepted (run vertical c)
+    (vertical : Bool) (c : Circumstances) (l : Layout) → c.setup.sheet ≡ Some l → Accepted (run vertical c)
     → Accepted (own_run c) × (entries_of (run vertical c) ≡ laid_out vertical l c)
 
 -- Moving the reference point by any vector and changing nothing else in the call or the state before moves every hit of

@@ -1,11 +1,11 @@
 -- Entries, what a run adds to the list, and the numbers of the list. (Document 01, "Moving and punching", "For demand 3, ..",
 -- and the list after the seventeen refusals; document 02, §3.)
-use Rattle.std.specs.Prelude.{Bool, true, false, List, [], ◌∷◌, ◌++◌, ℤ, pos}
+use Rattle.std.specs.Prelude.{Bool, true, false, List, [], ◌∷◌, ◌++◌, ℤ, pos, Err, Ok}
 use Rattle.aries.specs.declared.point.Point.{Point}
 use Rattle.aries.specs.declared.entry.Hit.{Hit}
 use Rattle.aries.specs.declared.entry.Numbers.{Numbers}
 use Rattle.aries.specs.declared.entry.Entry.{Entry}
-use Rattle.aries.specs.Outcome.{Out, done, refused}
+use Rattle.aries.specs.Outcome.{Out}
 
 -- ---- Entries: an entry (src/entry.rt) is a hit (where, with which tool, and whether in mode N), or a stop (whether it is
 -- optional)
@@ -56,19 +56,19 @@ pub record Made (A : Type 0) : Type 0 where
 
 -- no entry is made
 abbrev pub no_entry : {A : Type 0} → A → Out (Made A)
-no_entry a = done (record { entries = []; after = a })
+no_entry a = Ok (record { entries = []; after = a })
 
 -- entries, and then what is made
 abbrev pub adding : {A : Type 0} → List Entry → Out (Made A) → Out (Made A)
-adding es (refused number line) = refused number line
-adding es (done m) = done (record { entries = es ++ m.entries; after = m.after })
+adding es (Err e) = Err e
+adding es (Ok m) = Ok (record { entries = es ++ m.entries; after = m.after })
 
 -- one thing after the other, up to the first refusal
 abbrev pub and_then : {A : Type 0} → Out (Made A) → (A → Out (Made A)) → Out (Made A)
-and_then (refused number line) f = refused number line
-and_then (done m) f = adding m.entries (f m.after)
+and_then (Err e) f = Err e
+and_then (Ok m) f = adding m.entries (f m.after)
 
 -- the same entries, and what is left seen as part of something larger
 abbrev pub map_after : {A B : Type 0} → (A → B) → Out (Made A) → Out (Made B)
-map_after f (refused number line) = refused number line
-map_after f (done m) = done (record { entries = m.entries; after = f m.after })
+map_after f (Err e) = Err e
+map_after f (Ok m) = Ok (record { entries = m.entries; after = f m.after })

@@ -1,18 +1,19 @@
 -- Which words may stand in a block: their places, and the letters of each code. (Document 01, "Text, words, units"; document 02,
 -- §2 and §5; refusal 5.)
-use Rattle.std.specs.Prelude.{Bool, true, false, not, cond, ◌&&◌, ◌||◌, List, [], ◌∷◌, ◌++◌, ℕ, eqb}
-use Rattle.std.proofs.Math.Option.{Option, none, some}
+use Rattle.std.specs.Prelude.{Bool, true, false, not, cond, ◌&&◌, ◌||◌, List, [], ◌∷◌, ◌++◌, ℕ, eqb, None, Option, Some, is_some, is_none}
 use Prim.Native.String.{String}
 use Rattle.aries.specs.declared.block.Kind.{Kind}
 use Rattle.aries.specs.declared.block.Kind.TheVariants.{G26, G28, G29, G36, G37, G50, G70, G72, G75, G76, G92, G93, G98, Position, Lone, LetterM, LetterB, LetterU, LetterV, LetterW, Unknown, G66, G73}
 use Rattle.aries.specs.declared.block.Measure.{Measure}
-use Rattle.aries.specs.declared.block.Measure.TheVariants.{Unchanged, Absolute, Incremental}
+use Rattle.aries.specs.declared.block.Measure.TheVariants.{Absolute, Incremental}
+use Rattle.aries.specs.declared.word.Word.{Word}
 use Rattle.aries.specs.declared.reader.Given.{Given}
 use Rattle.aries.specs.Letters.{letter_a, letter_b, letter_g, letter_m, letter_n, letter_u, letter_v, letter_w, letter_x, letter_y}
-use Rattle.aries.specs.Test.{among, every, any_of, is_empty, is_some}
+use Rattle.aries.specs.Test.{among, every, any_of, is_empty}
 use Rattle.aries.specs.Text.{bytes}
 use Rattle.aries.specs.Words.{LetterWord}
-use Rattle.aries.specs.ByLetter.{has_row, lookup, pattern_codes, codes, m_codes, Letters, at, has, Words, is_plain, code_of, is_measure, by_letter}
+use Rattle.aries.specs.ByLetter.{has_row, lookup, pattern_codes, codes, m_codes, Letters, at, has, absent_or, is_plain, code_of, is_measure, by_letter}
+use Rattle.aries.specs.declared.word.Words.{Words}
 
 -- ---- Places (refusal 5): each rule is about a word and the words before it
 
@@ -26,8 +27,8 @@ n_first before r = not (eqb r.letter letter_n) || is_empty before
 
 -- there is a code, that of a pattern
 abbrev pub is_pattern_code : Option ℕ → Bool
-is_pattern_code none = false
-is_pattern_code (some code) = has_row pattern_codes code
+is_pattern_code None = false
+is_pattern_code (Some code) = has_row pattern_codes code
 
 -- A stands before the pattern's G, so no pattern code stands before A.
 abbrev pub a_before_pattern : List LetterWord → LetterWord → Bool
@@ -38,16 +39,10 @@ abbrev pub one_code : List LetterWord → LetterWord → Bool
 one_code before r =
     not (eqb r.letter letter_g) || (is_measure r.word || (is_plain r.word && not (is_some (by_letter before).code)))
 
--- there is neither G90 nor G91
-abbrev pub is_unchanged : Measure → Bool
-is_unchanged Unchanged = true
-is_unchanged Absolute = false
-is_unchanged Incremental = false
-
 -- Besides the code there is at most one of G90, G91.
 abbrev pub one_measure : List LetterWord → LetterWord → Bool
 one_measure before r =
-    not (eqb r.letter letter_g) || (not (is_measure r.word) || is_unchanged (by_letter before).measure)
+    not (eqb r.letter letter_g) || (not (is_measure r.word) || is_none (by_letter before).measure)
 
 -- a word is in its place behind others
 unfoldable pub in_place : List LetterWord → LetterWord → Bool
@@ -81,7 +76,7 @@ plain_kind w =
 
 -- the kind of a block: by its code, or by its letters where it has none
 unfoldable pub kind_of : Words → Kind
-kind_of w = elim w.code [ none ↦ plain_kind w.letters | some code ↦ lookup codes code Unknown ]
+kind_of w = elim w.code [ None ↦ plain_kind w.letters | Some code ↦ lookup codes code Unknown ]
 
 -- which of G90 and G91 may stand in a block, or has to
 pub data Beside : Type 0 where
@@ -152,24 +147,27 @@ letters_fit w f =
     && (one_of_them w (bytes f.one_of) && every (is_listed_or_absent w f) other_letters)
 
 -- there is G91
-abbrev pub is_g91 : Measure → Bool
-is_g91 Unchanged = false
-is_g91 Absolute = false
-is_g91 Incremental = true
+abbrev pub is_g91 : Option Measure → Bool
+is_g91 None = false
+is_g91 (Some Absolute) = false
+is_g91 (Some Incremental) = true
 
 -- one of G90, G91 stands beside the code, or none does, as the form has it
-abbrev pub beside_fits : Measure → Beside → Bool
-beside_fits m neither = is_unchanged m
+abbrev pub beside_fits : Option Measure → Beside → Bool
+beside_fits m neither = is_none m
 beside_fits m absolute_only = not (is_g91 m)
 beside_fits m any_of_both = true
-beside_fits m required = not (is_unchanged m)
+beside_fits m required = is_some m
 
 -- X and Y of a G73 are written, or have been given in one before
 abbrev pub is_given : Given → Letters → Bool
 is_given given w = (has w letter_x || given.x) && (has w letter_y || given.y)
 
--- a U or V line starts with its letter, so it has no N; an M code goes by its number and has no sign or point; a G73 has its X
--- and Y
+-- an M word is one of the M codes, which go by their number and have no sign or point
+abbrev pub is_m_code : Word → Bool
+is_m_code v = is_plain v && has_row m_codes (code_of v)
+
+-- a U or V line starts with its letter, so it has no N; an M word is an M code; a G73 has its X and Y
 abbrev pub kind_fits : Given → Letters → Kind → Bool
 kind_fits given w G26 = true
 kind_fits given w G28 = true
@@ -188,7 +186,7 @@ kind_fits given w G93 = true
 kind_fits given w G98 = true
 kind_fits given w Position = true
 kind_fits given w Lone = true
-kind_fits given w LetterM = is_plain (at w letter_m) && has_row m_codes (code_of (at w letter_m))
+kind_fits given w LetterM = absent_or is_m_code (at w letter_m)
 kind_fits given w LetterB = true
 kind_fits given w LetterU = not (has w letter_n)
 kind_fits given w LetterV = not (has w letter_n)

@@ -1,7 +1,6 @@
 -- What is judged besides the block itself: refusals 3, 15, 16 and 17, or none of them. (Document 01, the seventeen
 -- refusals, and "own hits" in the paragraph on demand 3.)
-use Rattle.std.specs.Prelude.{Bool, true, false, ◌&&◌, ℕ, ◌/◌, leb, ltb, ℤ, nat_abs}
-use Rattle.std.proofs.Math.Option.{Option, none, some}
+use Rattle.std.specs.Prelude.{Bool, true, false, ◌&&◌, ℕ, ◌/◌, leb, ltb, ℤ, nat_abs, None, Option, Some}
 use Rattle.aries.specs.declared.job.Job.{Job}
 use Rattle.aries.specs.declared.reader.Setting.{Setting}
 use Rattle.aries.specs.declared.point.Point.{Point}
@@ -23,16 +22,16 @@ most_blocks = 100000
 
 -- everything, for a job
 abbrev pub limits : Job → Judging
-limits job = record { blocks = some most_blocks; bounds = true; places = some job.places }
+limits job = record { blocks = Some most_blocks; bounds = true; places = Some job.places }
 
 -- a part's own entries: 3, 15, 16 and 17 are not judged
 abbrev pub unjudged : Judging
-unjudged = record { blocks = none; bounds = false; places = none }
+unjudged = record { blocks = None; bounds = false; places = None }
 
 -- one more fits under the limit, if there is one
 abbrev pub room : Option ℕ → ℕ → Bool
-room none n = true
-room (some most) n = ltb n most
+room None n = true
+room (Some most) n = ltb n most
 
 -- the test, where it is judged
 abbrev pub judged : Bool → Bool → Bool

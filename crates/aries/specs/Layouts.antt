@@ -1,11 +1,10 @@
 -- Layouts: the places of G98 and the order in which G75 and G76 copy a part to them. (Document 01, "Macros and layouts"
 -- and the paragraph on demand 3; refusals 10, 13 and 15.)
-use Rattle.std.specs.Prelude.{Bool, true, false, cond, ◌||◌, ℕ, zero, suc, ◌-◌, ◌*◌, eqb, pos}
+use Rattle.std.specs.Prelude.{Bool, true, false, cond, ◌||◌, ℕ, zero, suc, ◌-◌, ◌*◌, eqb, pos, Option, None, Some}
+use Rattle.aries.specs.declared.refusal.Refusal.TheVariants.{NotStored, NoLayout, TooFar}
 use Rattle.aries.specs.declared.point.Point.{Point}
 use Rattle.aries.specs.declared.block.Layout.{Layout}
 use Rattle.aries.specs.declared.block.Copies.{Copies}
-use Rattle.aries.specs.declared.setup.Sheet.{Sheet}
-use Rattle.aries.specs.declared.setup.Sheet.TheVariants.{Plain, LaidOut}
 use Rattle.aries.specs.declared.setup.Setup.{Setup}
 use Rattle.aries.specs.declared.state.State.{State}
 use Rattle.aries.specs.declared.state.Frame.{Frame}
@@ -69,7 +68,7 @@ Part = Frame → Progress → Out (Made Progress)
 unfoldable pub copy : Judging → Part → Frame → ℕ → State → Point → Progress → Out (Made Progress)
 unfolding near
 copy j part f line found p g = do
-  _ ← need (judged j.bounds (near p)) 15 line
+  _ ← need (judged j.bounds (near p)) TooFar line
   part (frame_at f p) (with_state g (copy_start found p))
 
 -- copies m, m + 1, .., so many of them; after the last one the state is that copy's
@@ -82,14 +81,14 @@ copy_all j part f line found place (suc n) m g = and_then (copy j part f line fo
 abbrev pub part_of : Judging → Bodies → Body → Part
 part_of j bodies b f g = run_body j bodies (most_calls - 1) f b g
 
-abbrev pub copy_over : Judging → Bodies → Body → Setup → ℕ → Copies → Sheet → Progress → Out (Made Progress)
-copy_over j bodies b s line c Plain g = refused 13 line
-copy_over j bodies b s line c (LaidOut l) g =
+abbrev pub copy_over : Judging → Bodies → Body → Setup → ℕ → Copies → Option Layout → Progress → Out (Made Progress)
+copy_over j bodies b s line c None g = refused NoLayout line
+copy_over j bodies b s line c (Some l) g =
     copy_all j (part_of j bodies b) (ordinary_frame s) line g.state (copy_place s.origin l c) (copy_count l) 0 g
 
 -- A G75 or G76 block. It stands outside bodies, where no call is open.
 unfoldable pub copy_part : Judging → Bodies → Setup → ℕ → Copies → Progress → Out (Made Progress)
 unfolding copy_all copy_place run_body
 copy_part j bodies s line c g = do
-  b ← given (bodies c.part) 10 line
+  b ← given (bodies c.part) NotStored line
   copy_over j bodies b s line c s.sheet g

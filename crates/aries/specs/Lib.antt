@@ -37,3 +37,4 @@ pub mod Settings
 pub mod FewestSteps
 pub mod Tools
 pub mod Plates
+pub mod Marks

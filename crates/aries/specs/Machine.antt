@@ -1,20 +1,18 @@
 -- The two machines: the G92 pair that names each, and the punching range. (Document 01, "Moving and punching"; refusals 8 and 16.)
-use Rattle.std.specs.Prelude.{Bool, cond, ◌&&◌, ℤ, pos, neg_ℤ}
+use Rattle.std.specs.Prelude.{Bool, cond, ◌&&◌, ℤ, pos, neg_ℤ, Option, None, Some}
 use Rattle.std.specs.Int.Signed.{le_z}
 use Rattle.signed.specs.Signed.{eq_z}
 use Rattle.aries.specs.declared.point.Point.{Point}
 use Rattle.aries.specs.declared.machine.Machine.{Machine}
 use Rattle.aries.specs.declared.machine.Machine.TheVariants.{Aries222, Aries224}
-use Rattle.aries.specs.declared.machine.Named.{Named}
-use Rattle.aries.specs.declared.machine.Named.TheVariants.{As, Neither}
 use Rattle.aries.specs.declared.state.Frame.{Frame}
 
 abbrev pub is_pair : Point → ℤ → ℤ → Bool
 is_pair p x y = eq_z p.x x && eq_z p.y y
 
 -- G92 X600. Y600. is the ARIES-222, G92 X1000. Y600. the ARIES-224
-unfoldable pub named : Point → Named
-named p = cond (is_pair p (pos 60000) (pos 60000)) (As Aries222) (cond (is_pair p (pos 100000) (pos 60000)) (As Aries224) Neither)
+unfoldable pub named : Point → Option Machine
+named p = cond (is_pair p (pos 60000) (pos 60000)) (Some Aries222) (cond (is_pair p (pos 100000) (pos 60000)) (Some Aries224) None)
 
 -- X and Y from −1,020
 abbrev pub least_end : ℤ

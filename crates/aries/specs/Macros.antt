@@ -1,7 +1,8 @@
 -- Macros: the bodies that are stored, and running them. (Document 01, "Macros and layouts"; document 02, §5; refusals 3 to 7, 10
 -- and 11.)
-use Rattle.std.specs.Prelude.{Bool, not, cond, ◌||◌, List, [], ◌∷◌, ℕ, zero, suc, ◌+◌, ◌-◌, ltb, get_or, set, take, drop, replicate}
-use Rattle.std.proofs.Math.Option.{Option, none, some}
+use Rattle.std.specs.Prelude.{Bool, not, cond, ◌||◌, List, [], ◌∷◌, ℕ, zero, suc, ◌+◌, ◌-◌, get_or, set, take, drop, replicate, None, Ok, Option, Some}
+use Rattle.aries.specs.declared.macros.StoredBody.{StoredBody}
+use Rattle.aries.specs.declared.refusal.Refusal.TheVariants.{BlocksSpent, OutOfPlace, NotStored, TooDeep}
 use Rattle.aries.specs.declared.block.Direct.{Direct}
 use Rattle.aries.specs.declared.block.Direct.TheVariants.{Lone, Punch, Move, PatternOrigin, RunPattern, Recall, Nibble, Idle, Stop}
 use Rattle.aries.specs.declared.block.Call.{Call}
@@ -10,10 +11,9 @@ use Rattle.aries.specs.declared.block.Block.{Block}
 use Rattle.aries.specs.declared.block.Measure.{Measure}
 use Rattle.aries.specs.declared.block.Instruction.{Instruction}
 use Rattle.aries.specs.declared.macros.Macros.{Macros}
-use Rattle.aries.specs.declared.macros.Found.{Found}
 use Rattle.aries.specs.declared.state.Frame.{Frame}
 use Rattle.aries.specs.declared.state.Progress.{Progress}
-use Rattle.aries.specs.Outcome.{Out, done, refused, ◌>>=◌, need, given, in_line}
+use Rattle.aries.specs.Outcome.{Out, refused, ◌>>=◌, need, given, in_line}
 use Rattle.aries.specs.Letters.{letter_v}
 use Rattle.aries.specs.Text.{lines, starts_with}
 use Rattle.aries.specs.Reader.{reader_of}
@@ -27,16 +27,13 @@ use Rattle.aries.specs.Patterns.{run_pattern, recall}
 
 -- ---- Bodies
 
--- Each number holds at most one body; the lists count from 0, which no macro has.
+-- Each number holds at most one body; the list counts from 0, which no macro has.
 abbrev pub no_macros : Macros
-no_macros = record { start = replicate (suc last_macro) 0; end = replicate (suc last_macro) 0; line = replicate (suc last_macro) 0 }
-
-abbrev pub is_stored : Macros → ℕ → Bool
-is_stored m n = ltb 0 (get_or m.line n 0)
+no_macros = record { bodies = replicate (suc last_macro) None }
 
 -- where the body of a macro lies, and the line of its start, if it is stored
-abbrev pub found_in : Macros → ℕ → Found
-found_in m n = cond (is_stored m n) (Found.Body (get_or m.start n 0) (get_or m.end n 0) (get_or m.line n 0)) Found.Nothing
+abbrev pub found_in : Macros → ℕ → Option StoredBody
+found_in m n = get_or m.bodies n None
 
 -- a macro's body, the part of the program text between its U line and its V line, and the number of its first line
 pub record Body : Type 0 where
@@ -47,9 +44,9 @@ pub record Body : Type 0 where
 unfoldable pub part : List ℕ → ℕ → ℕ → List ℕ
 part text start end = take (end - start) (drop start text)
 
-abbrev pub body_at : List ℕ → Found → Option Body
-body_at text Found.Nothing = none
-body_at text (Found.Body start end line) = some (record { line = line; bytes = part text start end })
+abbrev pub body_at : List ℕ → Option StoredBody → Option Body
+body_at text None = None
+body_at text (Some b) = Some (record { line = b.line; bytes = part text b.start b.end })
 
 -- what is stored under each number
 abbrev pub Bodies : Type 0
@@ -60,18 +57,18 @@ unfolding part
 bodies_of text m n = body_at text (found_in m n)
 
 -- storing again replaces
-abbrev pub storing : Macros → ℕ → ℕ → ℕ → ℕ → Macros
-storing m n start end line = record { start = set m.start n start; end = set m.end n end; line = set m.line n line }
+abbrev pub storing : Macros → ℕ → StoredBody → Macros
+storing m n b = record { bodies = set m.bodies n (Some b) }
 
 -- Body characters are its non-space bytes and line feeds: all of it, the text being without spaces.
-abbrev pub sizes : List ℕ → List ℕ → ℕ
-sizes [] ends = 0
-sizes (a ∷ starts) [] = 0
-sizes (a ∷ starts) (e ∷ ends) = (e - a) + sizes starts ends
+abbrev pub sizes : List (Option StoredBody) → ℕ
+sizes [] = 0
+sizes (None ∷ bs) = sizes bs
+sizes (Some b ∷ bs) = (b.end - b.start) + sizes bs
 
 -- the characters of all bodies stored
 unfoldable pub characters : Macros → ℕ
-characters m = sizes m.start m.end
+characters m = sizes m.bodies
 
 -- ---- Blocks that may stand in a body
 
@@ -116,7 +113,7 @@ unfoldable pub carry : Judging → Calls → Frame → ℕ → Block → Progres
 unfolding carry_direct
 carry j call f line (Block.Direct d) g = carry_direct j f line d g
 carry j call f line (Block.Call c) g = carry_call call f line c g
-carry j call f line (Block.Outside o) g = refused 7 line
+carry j call f line (Block.Outside o) g = refused OutOfPlace line
 
 -- ---- A block begins
 
@@ -129,7 +126,7 @@ abbrev pub may_come : Judging → List ℕ → Progress → Bool
 may_come j l g = not (is_counted l) || room j.blocks g.blocks
 
 -- it counts, and its G90 or G91 holds
-abbrev pub begun : Bool → Measure → Progress → Progress
+abbrev pub begun : Bool → Option Measure → Progress → Progress
 begun counted m g = record { state = measuring g.state m; blocks = cond counted (g.blocks + 1) g.blocks; entries = g.entries }
 
 -- the block of a line, and the progress as the block finds it
@@ -144,9 +141,9 @@ begun_by l g i = record { block = i.block; progress = begun (is_counted l) i.mea
 unfoldable pub begin : Judging → Frame → ℕ → List ℕ → Progress → Out Begun
 unfolding decode
 begin j f line l g = do
-  _ ← need (may_come j l g) 3 line
+  _ ← need (may_come j l g) BlocksSpent line
   i ← in_line line (decode (reader_of f g.state) l)
-  done (begun_by l g i)
+  Ok (begun_by l g i)
 
 -- ---- The lines of a body
 
@@ -173,10 +170,10 @@ run_lines j call f line (l ∷ ls) g = and_then (run_line j call f line l g) (ru
 unfoldable pub call : Judging → Bodies → ℕ → Calls
 unfolding run_lines lines
 call j bodies zero f n line g = do
-  b ← given (bodies n) 10 line
-  refused 11 line
+  b ← given (bodies n) NotStored line
+  refused TooDeep line
 call j bodies (suc d) f n line g = do
-  b ← given (bodies n) 10 line
+  b ← given (bodies n) NotStored line
   run_lines j (call j bodies d) f b.line (lines b.bytes) g
 
 -- at most four calls are open

@@ -1,5 +1,5 @@
 -- The lines of a program that ask for G73 are runs that the mirror sentence speaks of, in bodies and outside them.
-use Rattle.std.specs.Prelude.{◌≡◌, true, List, ℕ}
+use Rattle.std.specs.Prelude.{◌≡◌, true, List, ℕ, Ok}
 use Rattle.aries.specs.declared.block.Mirroring.{Mirroring}
 use Rattle.aries.specs.declared.block.Call.TheVariants.{Mirrored}
 use Rattle.aries.specs.declared.block.Block.TheVariants.{Call}
@@ -8,7 +8,6 @@ use Rattle.aries.specs.declared.setup.Program.{Program}
 use Rattle.aries.specs.declared.setup.Stage.TheVariants.{Running}
 use Rattle.aries.specs.declared.state.Frame.{Frame}
 use Rattle.aries.specs.declared.state.Progress.{Progress}
-use Rattle.aries.specs.Outcome.{passes}
 use Rattle.aries.specs.Entries.{map_after}
 use Rattle.aries.specs.Judging.{limits}
 use Rattle.aries.specs.Blocks.{decode}
@@ -27,13 +26,13 @@ mirror_run bodies d f line m g =
 pub record MirrorLinesRun : Type 0 where
   pub inside :
       (bodies : Bodies) (d : ℕ) (f : Frame) (line : ℕ) (l : List ℕ) (g : Progress) (i : Instruction) (m : Mirroring)
-      → may_come (limits f.job) l g ≡ true → decode (reader_of f g.state) l ≡ passes i → i.block ≡ Call (Mirrored m)
+      → may_come (limits f.job) l g ≡ true → decode (reader_of f g.state) l ≡ Ok i → i.block ≡ Call (Mirrored m)
       → run_line (limits f.job) (call (limits f.job) bodies d) f line l g
       ≡ run_by m.way (mirror_run bodies d f line m (begun (is_counted l) i.measure g))
   pub outside :
       (text : List ℕ) (next line : ℕ) (l : List ℕ) (ls : List (List ℕ)) (p : Program) (i : Instruction) (m : Mirroring)
       → p.stage ≡ Running → may_come (limits p.setup.job) l p.progress ≡ true
-      → decode (reader_of (ordinary_frame p.setup) p.progress.state) l ≡ passes i → i.block ≡ Call (Mirrored m)
+      → decode (reader_of (ordinary_frame p.setup) p.progress.state) l ≡ Ok i → i.block ≡ Call (Mirrored m)
       → run_line_outside (limits p.setup.job) text next line l ls p
       ≡ map_after (with_progress p)
       (run_by m.way (mirror_run (bodies_of text p.macros) most_calls (ordinary_frame p.setup) line m (begun (is_counted l) i.measure p.progress)))

@@ -1,12 +1,12 @@
 -- What is proved of mirrors: for every macro, state and frame, whatever is stored and whichever mirrors are open. (Document 02, §5.)
-use Rattle.std.specs.Prelude.{◌≡◌, cond, map, ℕ, ℤ, ◌+ℤ◌, ◌-ℤ◌}
+use Rattle.std.specs.Prelude.{◌≡◌, cond, map, ℕ, ℤ, ◌+ℤ◌, ◌-ℤ◌, Ok}
 use Rattle.aries.specs.declared.point.Point.{Point}
 use Rattle.aries.specs.declared.block.Axes.{Axes}
 use Rattle.aries.specs.declared.block.Call.TheVariants.{Mirrored}
 use Rattle.aries.specs.declared.mirror.Facing.{Facing}
 use Rattle.aries.specs.declared.state.Frame.{Frame}
 use Rattle.aries.specs.declared.state.Progress.{Progress}
-use Rattle.aries.specs.Outcome.{Out, done}
+use Rattle.aries.specs.Outcome.{Out}
 use Rattle.aries.specs.Entries.{placed_by, Made}
 use Rattle.aries.specs.Judging.{limits}
 use Rattle.aries.specs.Mirrors.{no_mirror, reflected, seen}
@@ -84,8 +84,8 @@ image_by q c p = seen c.frame (turned_by q c (unseen c.frame p))
 -- into a − X and each Y into b − Y as it is.
 pub record MirrorSentence : Type 0 where
   pub turned :
-      (q : ℕ) (c : MirrorRun) (m m' : Made Progress) → run_by 1 c ≡ done m → run_by q c ≡ done m'
+      (q : ℕ) (c : MirrorRun) (m m' : Made Progress) → run_by 1 c ≡ Ok m → run_by q c ≡ Ok m'
       → (m'.entries ≡ map (placed_by (image_by q c)) m.entries) × (m'.after ≡ m.after)
   pub outermost :
-      (q : ℕ) (c : MirrorRun) (m m' : Made Progress) → c.frame.mirror ≡ no_mirror → run_by 1 c ≡ done m → run_by q c ≡ done m'
+      (q : ℕ) (c : MirrorRun) (m m' : Made Progress) → c.frame.mirror ≡ no_mirror → run_by 1 c ≡ Ok m → run_by q c ≡ Ok m'
       → m'.entries ≡ map (placed_by (turned_by q c)) m.entries

@@ -1,18 +1,15 @@
 -- The punching state, positions, hits and stops. (Document 01, "Moving and punching"; document 02, §3 and §5; refusals 14 to 17.)
-use Rattle.std.specs.Prelude.{Bool, true, false, cond, ◌||◌, [], ◌∷◌, ℕ, ◌+◌, ◌-◌, ltb, ℤ, pos, ◌+ℤ◌, set, replicate}
+use Rattle.std.specs.Prelude.{Bool, true, false, cond, ◌||◌, [], ◌∷◌, ℕ, ◌+◌, ◌-◌, ltb, ℤ, pos, ◌+ℤ◌, set, replicate, Ok, Option, None, Some, is_some, unwrap_or}
+use Rattle.aries.specs.declared.refusal.Refusal.TheVariants.{NoTool, TooFar, OutOfRange, ListFull}
 use Rattle.aries.specs.declared.point.Point.{Point}
-use Rattle.aries.specs.declared.block.Axis.{Axis}
 use Rattle.aries.specs.declared.block.Axes.{Axes}
 use Rattle.aries.specs.declared.block.Pattern.{Pattern}
 use Rattle.aries.specs.declared.block.Measure.{Measure}
-use Rattle.aries.specs.declared.block.Measure.TheVariants.{Unchanged, Absolute, Incremental}
-use Rattle.aries.specs.declared.state.Waiting.{Waiting}
-use Rattle.aries.specs.declared.state.Waiting.TheVariants.{Unset, At}
-use Rattle.aries.specs.declared.state.Stored.{Stored}
+use Rattle.aries.specs.declared.block.Measure.TheVariants.{Absolute, Incremental}
 use Rattle.aries.specs.declared.state.State.{State}
 use Rattle.aries.specs.declared.state.Frame.{Frame}
 use Rattle.aries.specs.declared.state.Progress.{Progress}
-use Rattle.aries.specs.Outcome.{Out, done, ◌>>=◌, need}
+use Rattle.aries.specs.Outcome.{Out, ◌>>=◌, need}
 use Rattle.aries.specs.Numbers.{memory_count}
 use Rattle.aries.specs.Machine.{covers, in_range}
 use Rattle.aries.specs.Mirrors.{seen}
@@ -50,10 +47,10 @@ moved_to s p =
     }
 
 -- the pattern origin that waits, or none
-abbrev pub waiting_for : State → Waiting → State
+abbrev pub waiting_for : State → Option Point → State
 waiting_for s w =
     record {
-      waiting = record { origin = w };
+      waiting = w;
       current = s.current;
       incremental = s.incremental;
       nibble = s.nibble;
@@ -95,7 +92,7 @@ choosing s t =
 abbrev pub remembering : State → ℕ → Pattern → State
 remembering s n p =
     record {
-      memories = cond (ltb 0 n) (set s.memories (n - 1) (record { stored = Stored.Kept p })) s.memories;
+      memories = cond (ltb 0 n) (set s.memories (n - 1) (Some p)) s.memories;
       current = s.current;
       waiting = s.waiting;
       incremental = s.incremental;
@@ -106,12 +103,12 @@ remembering s n p =
     }
 
 -- G90 or G91 of a block holds for that block already, and on
-abbrev pub is_incremental : Measure → Bool → Bool
-is_incremental Unchanged before = before
-is_incremental Absolute before = false
-is_incremental Incremental before = true
+abbrev pub is_incremental : Option Measure → Bool → Bool
+is_incremental None before = before
+is_incremental (Some Absolute) before = false
+is_incremental (Some Incremental) before = true
 
-abbrev pub measuring : State → Measure → State
+abbrev pub measuring : State → Option Measure → State
 measuring s m =
     record {
       incremental = is_incremental m s.incremental;
@@ -126,7 +123,7 @@ measuring s m =
 
 -- A position block drops a waiting pattern origin; a lone G90 or G91 counts as one.
 abbrev pub dropping : State → State
-dropping s = waiting_for s Unset
+dropping s = waiting_for s None
 
 -- at a point, with no pattern origin waiting
 abbrev pub standing_at : State → Point → State
@@ -134,14 +131,14 @@ standing_at s p = moved_to (dropping s) p
 
 -- a point, with the axes that are written in place of its own
 abbrev pub written_over : Axes → Point → Point
-written_over a before = point_at (cond a.x.written a.x.value before.x) (cond a.y.written a.y.value before.y)
+written_over a before = point_at (unwrap_or a.x before.x) (unwrap_or a.y before.y)
 
 -- X and Y given in a G73: the last one for each letter, a and b, and that it has been given
 abbrev pub giving : State → Axes → State
 giving s a =
     record {
       spans = written_over a s.spans;
-      given = record { x = a.x.written || s.given.x; y = a.y.written || s.given.y };
+      given = record { x = is_some a.x || s.given.x; y = is_some a.y || s.given.y };
       current = s.current;
       waiting = s.waiting;
       incremental = s.incremental;
@@ -155,11 +152,11 @@ abbrev pub fresh_state : State
 fresh_state =
     record {
       current = zero_point;
-      waiting = record { origin = Unset };
+      waiting = None;
       incremental = false;
       nibble = false;
       tool = 0;
-      memories = replicate memory_count (record { stored = Stored.Empty });
+      memories = replicate memory_count None;
       spans = zero_point;
       given = record { x = false; y = false };
     }
@@ -174,8 +171,9 @@ with_state g s = record { state = s; blocks = g.blocks; entries = g.entries }
 -- ---- Positions
 
 -- one axis: an omitted one stays; else it is measured from the origin or, under G91, from the current point
-abbrev pub axis_target : Axis → Bool → ℤ → ℤ → ℤ
-axis_target a incremental origin current = cond a.written (cond incremental current origin +ℤ a.value) current
+abbrev pub axis_target : Option ℤ → Bool → ℤ → ℤ → ℤ
+axis_target None incremental origin current = current
+axis_target (Some value) incremental origin current = cond incremental current origin +ℤ value
 
 -- the point that a block's X and Y name
 abbrev pub target : Frame → State → Axes → Point
@@ -193,8 +191,8 @@ entered e g = record { entries = e ∷ []; after = record { state = g.state; blo
 -- 17: an entry takes a place of the list
 abbrev pub enter : Judging → ℕ → Entry → Progress → Out (Made Progress)
 enter j line e g = do
-  _ ← need (room j.places g.entries) 17 line
-  done (entered e g)
+  _ ← need (room j.places g.entries) ListFull line
+  Ok (entered e g)
 
 -- a hit at p, with the tool chosen and in the mode
 abbrev pub hit_of : State → Point → Entry
@@ -205,9 +203,9 @@ hit_of s p = Entry.Hit (record { place = p; tool = s.tool; nibble = s.nibble })
 unfoldable pub punch : Judging → Frame → ℕ → Point → Progress → Out (Made Progress)
 unfolding near covers seen
 punch j f line p g = do
-  _ ← need (ltb 0 g.state.tool) 14 line
-  _ ← need (judged j.bounds (near (seen f p))) 15 line
-  _ ← need (judged j.bounds (in_range f (seen f p))) 16 line
+  _ ← need (ltb 0 g.state.tool) NoTool line
+  _ ← need (judged j.bounds (near (seen f p))) TooFar line
+  _ ← need (judged j.bounds (in_range f (seen f p))) OutOfRange line
   enter j line (hit_of g.state (seen f p)) (with_state g (moved_to g.state p))
 
 -- A position block, X or Y with or without T, punches. T chooses the tool first.
@@ -219,8 +217,8 @@ position j f line a t g = punch j f line (target f g.state a) (with_state g (dro
 unfoldable pub move : Judging → Frame → ℕ → Axes → ℕ → Progress → Out (Made Progress)
 unfolding near covers seen
 move j f line a t g = do
-  _ ← need (judged j.bounds (near (seen f (target f g.state a)))) 15 line
-  _ ← need (judged j.bounds (in_range f (seen f (target f g.state a)))) 16 line
+  _ ← need (judged j.bounds (near (seen f (target f g.state a)))) TooFar line
+  _ ← need (judged j.bounds (in_range f (seen f (target f g.state a)))) OutOfRange line
   no_entry (with_state g (moved_to (dropping (choosing g.state t)) (target f g.state a)))
 
 -- G72 sets the waiting pattern origin by the same rules, an omitted axis being the current point's; the current point stays.
@@ -228,8 +226,8 @@ move j f line a t g = do
 unfoldable pub set_pattern_origin : Judging → Frame → ℕ → Axes → Progress → Out (Made Progress)
 unfolding near
 set_pattern_origin j f line a g = do
-  _ ← need (judged j.bounds (near (target f g.state a))) 15 line
-  no_entry (with_state g (waiting_for g.state (At (target f g.state a))))
+  _ ← need (judged j.bounds (near (target f g.state a))) TooFar line
+  no_entry (with_state g (waiting_for g.state (Some (target f g.state a))))
 
 -- M00 makes a stop, M01 an optional one: no tool is needed, no position is judged, and nothing of the state changes.
 abbrev pub stop : Judging → ℕ → Bool → Progress → Out (Made Progress)

@@ -1,6 +1,6 @@
 -- Numbers: lengths and angles, whole numbers, and their ranges. (Document 01, "Text, words, units", "Patterns", "Macros and
 -- layouts"; document 02, §1, §2 and §5; refusal 6.)
-use Rattle.std.specs.Prelude.{Bool, true, not, cond, ◌&&◌, ◌||◌, List, [], ◌∷◌, ℕ, ℤ, pos, nat_abs, ◌*ℤ◌, set}
+use Rattle.std.specs.Prelude.{Bool, true, not, cond, ◌&&◌, List, [], ◌∷◌, ℕ, ℤ, pos, nat_abs, ◌*ℤ◌, set, option_map}
 use Prim.Native.String.{String}
 use Rattle.std.specs.Int.Signed.{lt_z}
 use Rattle.aries.specs.declared.reader.Setting.{Setting}
@@ -12,7 +12,7 @@ use Rattle.aries.specs.Letters.{letter_a, letter_b, letter_d, letter_i, letter_j
 use Rattle.aries.specs.Test.{within, every}
 use Rattle.aries.specs.Text.{bytes}
 use Rattle.aries.specs.Judging.{is_near}
-use Rattle.aries.specs.ByLetter.{Letters, at, has, is_plain}
+use Rattle.aries.specs.ByLetter.{Letters, at, absent_or, is_plain}
 
 -- ---- Lengths and angles
 
@@ -27,7 +27,7 @@ length_of s v = cond v.pointed v.value (without_point s v.value)
 
 -- a word with another number, else as it is
 abbrev pub with_value : Word → ℤ → Word
-with_value v number = record { written = v.written; signed = v.signed; pointed = v.pointed; value = number }
+with_value v number = record { signed = v.signed; pointed = v.pointed; value = number }
 
 -- a word with its number in hundredths
 abbrev pub word_in_hundredths : Setting → Word → Word
@@ -63,7 +63,7 @@ lengths_of Unknown = ""
 -- words by letter, with these letters in hundredths
 abbrev pub letters_in_hundredths : Setting → Letters → List ℕ → Letters
 letters_in_hundredths s w [] = w
-letters_in_hundredths s w (l ∷ ls) = letters_in_hundredths s (set w (index_of l) (word_in_hundredths s (at w l))) ls
+letters_in_hundredths s w (l ∷ ls) = letters_in_hundredths s (set w (index_of l) (option_map (word_in_hundredths s) (at w l))) ls
 
 -- the words of a block of a kind, its lengths and angles in hundredths
 unfoldable pub in_hundredths : Setting → Kind → Letters → Letters
@@ -74,7 +74,7 @@ in_hundredths s k w = letters_in_hundredths s w (bytes (lengths_of k))
 unfoldable pub lengths_fit : Setting → Kind → Letters → Bool
 unfolding bytes length_of
 lengths_fit Hundredths k w = true
-lengths_fit Millimetres k w = every (λ l. is_near (length_of Millimetres (at w l))) (bytes (lengths_of k))
+lengths_fit Millimetres k w = every (λ l. absent_or (λ v. is_near (length_of Millimetres v)) (at w l)) (bytes (lengths_of k))
 
 -- ---- Ranges
 
@@ -167,7 +167,7 @@ common_ranges = (letter_n, whole 0 9999) ∷ (letter_t, tool_number) ∷ (letter
 
 -- an absent word passes
 abbrev pub number_fits : Letters → ℕ × Range → Bool
-number_fits w e = not (has w e.0) || is_of_range e.1 (at w e.0)
+number_fits w e = absent_or (is_of_range e.1) (at w e.0)
 
 -- the numbers of a block are of their kinds and in their ranges
 unfoldable pub is_ranged : Letters → Kind → Bool

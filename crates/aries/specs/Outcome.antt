@@ -1,32 +1,52 @@
--- What carrying something out comes to: a result, or a refusal with its number and its line.
+-- What carrying something out comes to: a result, or a refusal with its line. Refusals go by their numbers.
 -- A `do` block goes on past each test that passes, so the refusals stand in it in their checking order.
-use Rattle.std.specs.Prelude.{Bool, true, false, ℕ}
-use Rattle.std.proofs.Math.Option.{Option, none, some}
+use Rattle.std.specs.Prelude.{Bool, true, false, ℕ, Option, None, Some, Result, Ok, Err}
+use Rattle.aries.specs.declared.refusal.Refusal.{Refusal}
+use Rattle.aries.specs.declared.refusal.Refusal.TheVariants.{TextLength, StrayByte, BlocksSpent, WordForm, NotListed, WrongNumber, OutOfPlace, NoMachine, NotClosed, NotStored, TooDeep, StoreFull, NoLayout, NoTool, TooFar, OutOfRange, ListFull, ShearUnfit}
+use Rattle.aries.specs.declared.refusal.Refused.{Refused}
 
-pub data Out (A : Type 0) : Type 0 where
-  done : A → Out A
-  refused : ℕ → ℕ → Out A
+-- the numbers of the refusals
+abbrev pub refusal_number : Refusal → ℕ
+refusal_number TextLength = 1
+refusal_number StrayByte = 2
+refusal_number BlocksSpent = 3
+refusal_number WordForm = 4
+refusal_number NotListed = 5
+refusal_number WrongNumber = 6
+refusal_number OutOfPlace = 7
+refusal_number NoMachine = 8
+refusal_number NotClosed = 9
+refusal_number NotStored = 10
+refusal_number TooDeep = 11
+refusal_number StoreFull = 12
+refusal_number NoLayout = 13
+refusal_number NoTool = 14
+refusal_number TooFar = 15
+refusal_number OutOfRange = 16
+refusal_number ListFull = 17
+refusal_number ShearUnfit = 18
 
-abbrev pub ◌>>=◌ : {A B : Type 0} → Out A → (A → Out B) → Out B
-◌>>=◌ (done a) f = f a
-◌>>=◌ (refused number line) f = refused number line
+abbrev pub Out : Type 0 → Type 0
+Out A = Result A Refused
+
+abbrev pub refused : {A : Type 0} → Refusal → ℕ → Out A
+refused refusal line = Err (record { refusal = refusal; line = line })
+
+abbrev pub ◌>>=◌ : {A B E : Type 0} → Result A E → (A → Result B E) → Result B E
+◌>>=◌ (Ok a) f = f a
+◌>>=◌ (Err e) f = Err e
 
 -- goes on where the test passes
-abbrev pub need : Bool → ℕ → ℕ → Out (Unit {0})
-need true number line = done tt
-need false number line = refused number line
+abbrev pub need : Bool → Refusal → ℕ → Out (Unit {0})
+need true refusal line = Ok tt
+need false refusal line = refused refusal line
 
 -- goes on with what is there
-abbrev pub given : {A : Type 0} → Option A → ℕ → ℕ → Out A
-given none number line = refused number line
-given (some a) number line = done a
+abbrev pub given : {A : Type 0} → Option A → Refusal → ℕ → Out A
+given None refusal line = refused refusal line
+given (Some a) refusal line = Ok a
 
--- what is judged of a line by itself: a result, or a refusal's number
-pub data Checked (A : Type 0) : Type 0 where
-  passes : A → Checked A
-  fails : ℕ → Checked A
-
--- the same in a line with a number
-abbrev pub in_line : {A : Type 0} → ℕ → Checked A → Out A
-in_line line (passes a) = done a
-in_line line (fails number) = refused number line
+-- what is judged of a line by itself, a result or a refusal, in a line with a number
+abbrev pub in_line : {A : Type 0} → ℕ → Result A Refusal → Out A
+in_line line (Ok a) = Ok a
+in_line line (Err refusal) = refused refusal line

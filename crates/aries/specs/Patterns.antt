@@ -1,16 +1,12 @@
 -- Patterns: where their hits lie, and pattern memory. (Document 01, "Patterns"; document 02, §2; refusals 10, 15 and 18.)
-use Rattle.std.specs.Prelude.{Bool, true, cond, ◌&&◌, ℕ, zero, suc, ◌-◌, ◌*◌, ℤ, pos, ◌+ℤ◌, ◌-ℤ◌, ◌*ℤ◌, get_or}
+use Rattle.std.specs.Prelude.{Bool, true, cond, ◌&&◌, ℕ, zero, suc, ◌-◌, ◌*◌, ℤ, pos, ◌+ℤ◌, ◌-ℤ◌, ◌*ℤ◌, get_or, Option, None, Some}
 use Rattle.sine.specs.Series.{nearest}
 use Rattle.sine.specs.Sine.{full_turn, sine, cosine, offset}
+use Rattle.aries.specs.declared.refusal.Refusal.TheVariants.{NotStored, TooFar, ShearUnfit}
 use Rattle.aries.specs.declared.point.Point.{Point}
 use Rattle.aries.specs.declared.block.Steps.{Steps}
 use Rattle.aries.specs.declared.block.Pattern.{Pattern}
 use Rattle.aries.specs.declared.block.Pattern.TheVariants.{Line, Arc, Circle, Grid, Shear}
-use Rattle.aries.specs.declared.state.Waiting.{Waiting}
-use Rattle.aries.specs.declared.state.Waiting.TheVariants.{Unset, At}
-use Rattle.aries.specs.declared.state.Stored.{Stored}
-use Rattle.aries.specs.declared.state.Stored.TheVariants.{Empty, Kept}
-use Rattle.aries.specs.declared.state.Memory.{Memory}
 use Rattle.aries.specs.declared.state.State.{State}
 use Rattle.aries.specs.declared.state.Frame.{Frame}
 use Rattle.aries.specs.declared.state.Progress.{Progress}
@@ -102,12 +98,12 @@ punches j f line p start zero k g = no_entry g
 punches j f line p start (suc n) k g = and_then (punch j f line (start ⊕ hit_offset p k) g) (punches j f line p start n (suc k))
 
 -- a waiting pattern origin, else the current point
-abbrev pub start_at : Waiting → Point → Point
-start_at Unset current = current
-start_at (At origin) current = origin
+abbrev pub start_at : Option Point → Point → Point
+start_at None current = current
+start_at (Some origin) current = origin
 
 abbrev pub start_of : State → Point
-start_of s = start_at s.waiting.origin s.current
+start_of s = start_at s.waiting s.current
 
 -- The waiting origin is used up, and without hits the current point is the start.
 abbrev pub starting : Progress → Progress
@@ -125,8 +121,8 @@ ending (Shear j s) start g = with_state g (moved_to g.state start)
 unfoldable pub pattern : Judging → Frame → ℕ → Pattern → Progress → Out (Made Progress)
 unfolding punches hit_count reach_is_near shear_is_fit
 pattern j f line p g = do
-  _ ← need (shear_is_fit p) 18 line
-  _ ← need (judged j.bounds (reach_is_near p)) 15 line
+  _ ← need (shear_is_fit p) ShearUnfit line
+  _ ← need (judged j.bounds (reach_is_near p)) TooFar line
   map_after (ending p (start_of g.state)) (punches j f line p (start_of g.state) (hit_count p) 0 (starting g))
 
 -- T chooses the tool, and A stores code and numbers without T before the hits.
@@ -134,14 +130,12 @@ unfoldable pub run_pattern : Judging → Frame → ℕ → Pattern → ℕ → �
 unfolding pattern
 run_pattern j f line p t a g = pattern j f line p (with_state g (remembering (choosing g.state t) a p))
 
-abbrev pub empty_memory : Memory
-empty_memory = record { stored = Empty }
-
-abbrev pub recalled : Judging → Frame → ℕ → Stored → Progress → Out (Made Progress)
-recalled j f line Empty g = refused 10 line
-recalled j f line (Kept p) g = pattern j f line p g
+-- what a memory holds is carried out, or refused where that is nothing
+abbrev pub recalled : Judging → Frame → ℕ → Option Pattern → Progress → Out (Made Progress)
+recalled j f line None g = refused NotStored line
+recalled j f line (Some p) g = pattern j f line p g
 
 -- B n runs what is stored.
 unfoldable pub recall : Judging → Frame → ℕ → ℕ → Progress → Out (Made Progress)
 unfolding pattern
-recall j f line n g = recalled j f line (get_or g.state.memories (n - 1) empty_memory).stored g
+recall j f line n g = recalled j f line (get_or g.state.memories (n - 1) None) g

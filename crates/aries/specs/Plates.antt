@@ -1,12 +1,12 @@
 -- The plates M1 to M11 of document 01, as rows of one list: each text with what the definitions make of it; and M1 to M7 for
 -- setting 0.
-use Rattle.std.specs.Prelude.{◌≡◌, Bool, true, false, ◌&&◌, List, [], ◌∷◌, map, ℕ, ℤ, pos, length, get_or}
+use Rattle.std.specs.Prelude.{◌≡◌, Bool, true, false, ◌&&◌, List, [], ◌∷◌, map, ℕ, ℤ, pos, length, get_or, Err, Ok}
 use Prim.Native.String.{String}
 use Rattle.signed.specs.Signed.{eq_z}
 use Rattle.aries.specs.declared.job.Job.{Job}
 use Rattle.aries.specs.declared.reader.Setting.TheVariants.{Hundredths}
 use Rattle.aries.specs.declared.setup.Program.{Program}
-use Rattle.aries.specs.Outcome.{Out, done, refused}
+use Rattle.aries.specs.Outcome.{refusal_number, Out}
 use Rattle.aries.specs.Text.{bytes, lines, without_spaces}
 use Rattle.aries.specs.declared.entry.Entry.{Entry}
 use Rattle.aries.specs.Entries.{Made, cells}
@@ -41,12 +41,12 @@ abbrev pub absent_entry : Entry
 absent_entry = Entry.Hit (record { place = zero_point; tool = 0; nibble = false })
 
 abbrev pub seen_entries : List ℕ → Out (List Entry) → Seen
-seen_entries indexes (done es) = entries (length es) (map (λ k. get_or (absent_entry ∷ es) k absent_entry) indexes)
-seen_entries indexes (refused number line) = refusal number line
+seen_entries indexes (Ok es) = entries (length es) (map (λ k. get_or (absent_entry ∷ es) k absent_entry) indexes)
+seen_entries indexes (Err e) = refusal (refusal_number e.refusal) e.line
 
 abbrev pub seen_storage : Out (Made Program) → Seen
-seen_storage (done m) = stored (characters m.after.macros)
-seen_storage (refused number line) = refusal number line
+seen_storage (Ok m) = stored (characters m.after.macros)
+seen_storage (Err e) = refusal (refusal_number e.refusal) e.line
 
 abbrev pub seen : View → List ℕ → Seen
 seen (entries_at indexes) text = seen_entries indexes (expand (pos 1) text numbers)
@@ -127,9 +127,9 @@ same_numbers (m ∷ ms) (n ∷ ns) = eq_z m n && same_numbers ms ns
 -- two texts are accepted, and have the same list
 unfoldable pub same_list : Out (List Entry) → Out (List Entry) → Bool
 unfolding cells
-same_list (done es) (done fs) = same_numbers (cells es) (cells fs)
-same_list (done es) (refused number line) = false
-same_list (refused number line) out = false
+same_list (Ok es) (Ok fs) = same_numbers (cells es) (cells fs)
+same_list (Ok es) (Err e) = false
+same_list (Err e) out = false
 
 -- each text at setting 0 and that of its row at setting 1
 unfoldable pub same_lists : List String → List Row → Bool

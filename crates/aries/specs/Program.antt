@@ -1,23 +1,18 @@
 -- The whole program: blocks outside bodies, their order, and the answer to a text. (Document 01, "The seventeen refusals,
 -- in checking order"; refusals 1, 2, 3, 7, 8 and 9.)
-use Rattle.std.specs.Prelude.{Bool, true, false, not, List, [], ◌∷◌, ◌++◌, ℕ, suc, ◌+◌, ◌-◌, ℤ, pos, length, replicate}
-use Rattle.std.proofs.Math.Option.{Option, none, some}
-use Rattle.aries.specs.declared.answer.Answer.{Answer}
-use Rattle.aries.specs.declared.answer.Answer.TheVariants.{Entries, Refused}
+use Rattle.std.specs.Prelude.{Bool, true, false, not, List, [], ◌∷◌, ◌++◌, ℕ, suc, ◌+◌, ◌-◌, ℤ, pos, length, replicate, Err, Ok, Option, Some, None}
+use Rattle.aries.specs.declared.refusal.Refusal.TheVariants.{TextLength, StrayByte, OutOfPlace, NoMachine, NotClosed}
 use Rattle.aries.specs.declared.block.Outside.{Outside}
 use Rattle.aries.specs.declared.block.Block.{Block}
 use Rattle.aries.specs.declared.job.Job.{Job}
 use Rattle.aries.specs.declared.machine.Machine.{Machine}
-use Rattle.aries.specs.declared.machine.Named.{Named}
-use Rattle.aries.specs.declared.machine.Named.TheVariants.{As, Neither}
 use Rattle.aries.specs.declared.point.Point.{Point}
-use Rattle.aries.specs.declared.setup.Sheet.TheVariants.{LaidOut}
 use Rattle.aries.specs.declared.setup.Setup.{Setup}
 use Rattle.aries.specs.declared.setup.Stage.{Stage}
 use Rattle.aries.specs.declared.setup.Stage.TheVariants.{Fresh, Running, Storing, Ended}
 use Rattle.aries.specs.declared.setup.Program.{Program}
 use Rattle.aries.specs.declared.state.Progress.{Progress}
-use Rattle.aries.specs.Outcome.{Out, done, refused, ◌>>=◌, need}
+use Rattle.aries.specs.Outcome.{refusal_number, Out, refused, ◌>>=◌, need}
 use Rattle.aries.specs.Test.{within}
 use Rattle.aries.specs.Letters.{letter_v}
 use Rattle.aries.specs.Text.{longest, stray_line, without_spaces, lines, starts_with}
@@ -85,9 +80,9 @@ start_as p q m =
     }
 
 -- 8: G92 names one of the machines.
-abbrev pub started : Program → Point → ℕ → Named → Out (Made Program)
-started p q line Neither = refused 8 line
-started p q line (As m) = no_entry (start_as p q m)
+abbrev pub started : Program → Point → ℕ → Option Machine → Out (Made Program)
+started p q line None = refused NoMachine line
+started p q line (Some m) = no_entry (start_as p q m)
 
 -- G93 and G98: neither moves the current point or drops a waiting origin.
 abbrev pub settled : Program → Out Setup → Out (Made Program)
@@ -105,9 +100,9 @@ unfolding named set_origin open_body copy_part bodies_of
 carry_outside j text next line ls (Outside.Machine q) p = started p q line (named q)
 carry_outside j text next line ls Outside.End p = no_entry (at_stage Ended p)
 carry_outside j text next line ls (Outside.Offset a) p = settled p (set_origin j line p.setup.sheet (offset_by a p.setup.offset) p.setup)
-carry_outside j text next line ls (Outside.Layout l) p = settled p (set_origin j line (LaidOut l) p.setup.offset p.setup)
+carry_outside j text next line ls (Outside.Layout l) p = settled p (set_origin j line (Some l) p.setup.offset p.setup)
 carry_outside j text next line ls (Outside.Open n) p = map_after (with_store p) (open_body j text n next line ls p.setup (with_stored p.macros p.progress))
-carry_outside j text next line ls (Outside.Close n) p = refused 9 line
+carry_outside j text next line ls (Outside.Close n) p = refused NotClosed line
 carry_outside j text next line ls (Outside.Copy c) p = map_after (with_progress p) (copy_part j (bodies_of text p.macros) p.setup line c p.progress)
 
 -- a direct block or a call, as in a body; four calls may be opened
@@ -139,7 +134,7 @@ unfoldable pub run_block_outside : Judging → List ℕ → ℕ → ℕ → List
 unfolding begin carry_out
 run_block_outside j text next line l ls p = do
   b ← begin j (ordinary_frame p.setup) line l p.progress
-  _ ← need (in_place p.stage b.block) 7 line
+  _ ← need (in_place p.stage b.block) OutOfPlace line
   carry_out j text next line ls b.block (with_progress p b.progress)
 
 -- a blank line does nothing
@@ -167,54 +162,54 @@ is_ended Ended = true
 
 -- 2: the first byte that is not allowed
 abbrev pub no_stray : Option ℕ → Out (Unit {0})
-no_stray none = done tt
-no_stray (some line) = refused 2 line
+no_stray None = Ok tt
+no_stray (Some line) = refused StrayByte line
 
 -- the blocks of a text without spaces; it ends with G50, else it is refused in the last line
 unfoldable pub perform : Job → List ℕ → ℕ → Out (List Entry)
 unfolding run_from lines
 perform job text last = do
   m ← run_from (limits job) text 0 1 (lines text) (fresh_program job)
-  _ ← need (is_ended m.after.stage) 7 last
-  done m.entries
+  _ ← need (is_ended m.after.stage) OutOfPlace last
+  Ok m.entries
 
 -- The entries of a text, or its refusal, at a setting that the caller states by a number, with a lent list of so many numbers. 1
 -- and 2 look at the whole text first.
 unfoldable pub expand : ℤ → List ℕ → ℕ → Out (List Entry)
 unfolding perform stray_line without_spaces
 expand setting text numbers = do
-  _ ← need (within 1 longest (length text)) 1 0
+  _ ← need (within 1 longest (length text)) TextLength 0
   _ ← no_stray (stray_line 1 text)
   perform (lending (setting_of setting) numbers) (without_spaces text) (length (lines text))
 
 -- ---- The answer
 
--- 0 with the number of entries, or a refusal with its line
-abbrev pub answer_of : Out (List Entry) → Answer
-answer_of (done entries) = Entries (length entries)
-answer_of (refused number line) = Refused number line
+-- the number of entries, or a refusal with its line
+abbrev pub answer_of : Out (List Entry) → Out ℕ
+answer_of (Ok entries) = Ok (length entries)
+answer_of (Err e) = Err e
 
--- the paper's number, count and line of an answer; a count after a refusal and a line after acceptance are 0
-abbrev pub number_of : Answer → ℕ
-number_of (Entries count) = 0
-number_of (Refused number line) = number
+-- the paper's number, count and line of an answer; a number and a line after acceptance and a count after a refusal are 0
+abbrev pub number_of : Out ℕ → ℕ
+number_of (Ok count) = 0
+number_of (Err e) = refusal_number e.refusal
 
-abbrev pub count_of : Answer → ℕ
-count_of (Entries count) = count
-count_of (Refused number line) = 0
+abbrev pub count_of : Out ℕ → ℕ
+count_of (Ok count) = count
+count_of (Err e) = 0
 
-abbrev pub line_of : Answer → ℕ
-line_of (Entries count) = 0
-line_of (Refused number line) = line
+abbrev pub line_of : Out ℕ → ℕ
+line_of (Ok count) = 0
+line_of (Err e) = e.line
 
 -- The lent list afterwards, so many numbers long: the entries, and the rest, after a refusal all of it, zero.
 unfoldable pub list_of : ℕ → Out (List Entry) → List ℤ
 unfolding cells
-list_of numbers (done entries) = cells entries ++ replicate (numbers - length (cells entries)) (pos 0)
-list_of numbers (refused number line) = replicate numbers (pos 0)
+list_of numbers (Ok entries) = cells entries ++ replicate (numbers - length (cells entries)) (pos 0)
+list_of numbers (Err e) = replicate numbers (pos 0)
 
 -- The lent tally afterwards: that of the entries; after a refusal all of it is zero.
 unfoldable pub tally_for : Out (List Entry) → List ℕ
 unfolding tally_of
-tally_for (done entries) = tally_of entries
-tally_for (refused number line) = no_tally
+tally_for (Ok entries) = tally_of entries
+tally_for (Err e) = no_tally

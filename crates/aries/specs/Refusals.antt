@@ -1,6 +1,7 @@
 -- Demand 1, of refusals: their numbers, and their lines in the text that is refused.
-use Rattle.std.specs.Prelude.{◌≡◌, ◌↔◌, List, ℕ, ◌≤◌, ℤ, length}
-use Rattle.aries.specs.Outcome.{refused}
+use Rattle.std.specs.Prelude.{◌≡◌, ◌↔◌, List, ℕ, ◌≤◌, ℤ, length, Err}
+use Rattle.aries.specs.declared.refusal.Refused.{Refused}
+use Rattle.aries.specs.Outcome.{refusal_number}
 use Rattle.aries.specs.Text.{lines}
 use Rattle.aries.specs.Program.{expand}
 
@@ -12,4 +13,5 @@ pub record RefusalOf (text : List ℕ) (number line : ℕ) : Type 0 where
 
 -- Every refusal of a text, at every setting and with a lent list of so many numbers, is such a one.
 abbrev pub RefusalsNamed : Type 0
-RefusalsNamed = (setting : ℤ) (text : List ℕ) (numbers number line : ℕ) → expand setting text numbers ≡ refused number line → RefusalOf text number line
+RefusalsNamed =
+    (setting : ℤ) (text : List ℕ) (numbers : ℕ) (e : Refused) → expand setting text numbers ≡ Err e → RefusalOf text (refusal_number e.refusal) e.line

@@ -1,23 +1,20 @@
--- What a function of the code promises that carries something out, against a definition: its status, what it leaves, and
--- what is lent. After a refusal the papers leave what is lent and what is handed back free, until the list is cleared.
-use Rattle.std.specs.Prelude.{◌≡◌, cond, List, [], ◌∷◌, ℕ, ◌+◌, ◌*◌, ◌/◌, ◌≤◌, ltb, ℤ, length, set}
+-- What a function of the code promises that carries something out, against a definition: its result, and what is lent. After a
+-- refusal the papers leave what is lent free, until the list is cleared.
+use Rattle.std.specs.Prelude.{◌≡◌, cond, List, [], ◌∷◌, ℕ, ◌+◌, ◌*◌, ◌/◌, ◌≤◌, ltb, ℤ, length, set, Ok, Err}
 use Rattle.aries.specs.declared.job.Job.{Job}
 use Rattle.aries.specs.declared.state.Frame.{Frame}
-use Rattle.aries.specs.declared.state.Status.{Status}
-use Rattle.aries.specs.declared.state.Status.TheVariants.{Passed, Refused}
-use Rattle.aries.specs.declared.state.Outcome.{Outcome}
 use Rattle.aries.specs.declared.state.Progress.{Progress}
 use Rattle.aries.specs.declared.setup.Program.{Program}
-use Rattle.aries.specs.declared.setup.Advance.{Advance}
-use Rattle.aries.specs.Outcome.{Out, done, refused}
+use Rattle.aries.specs.Outcome.{Out}
 use Rattle.aries.specs.declared.entry.Entry.{Entry}
 use Rattle.aries.specs.Entries.{Made, numbers_of}
 use Rattle.aries.specs.Tallying.{tally_put}
 use Rattle.aries.specs.Judging.{Judging, limits}
 
-abbrev pub status_of : {A : Type 0} → Out A → Status
-status_of (done a) = Passed
-status_of (refused number line) = Refused number line
+-- what is left, or the refusal; the entries are not handed back but put into the list that is lent
+abbrev pub left_of : {A : Type 0} → Out (Made A) → Out A
+left_of (Ok m) = Ok m.after
+left_of (Err e) = Err e
 
 -- ---- What is lent
 
@@ -56,26 +53,25 @@ over l k (e ∷ es) = over (put l k e) (k + 1) es
 
 -- ---- What was done
 
--- A status, what is left with its count of entries, and what is lent before and after, against what the definitions make,
--- from place k on: where that is accepted, just its entries were put, the count goes with them, and they had places.
-pub record Ran {A : Type 0} (count : A → ℕ) (job : Job) (status : Status) (left : A) (before after : Lent) (k : ℕ) (out : Out (Made A)) : Type 0 where
-  pub same_status : status ≡ status_of out
-  pub same_left : (m : Made A) → out ≡ done m → left ≡ m.after
-  pub written : (m : Made A) → out ≡ done m → after ≡ over before k m.entries
-  pub counted : (m : Made A) → out ≡ done m → count left ≡ k + length m.entries
-  pub fitted : (m : Made A) → out ≡ done m → k ≤ job.places → count left ≤ job.places
+-- A result with its count of entries, and what is lent before and after, against what the definitions make, from place k on: it
+-- is what they leave, or their refusal; where they accept, just their entries were put, the count goes with them, and they had
+-- places.
+pub record Ran {A : Type 0} (count : A → ℕ) (job : Job) (result : Out A) (before after : Lent) (k : ℕ) (out : Out (Made A)) : Type 0 where
+  pub same : result ≡ left_of out
+  pub written : (m : Made A) → out ≡ Ok m → after ≡ over before k m.entries
+  pub counted : (m : Made A) → out ≡ Ok m → count m.after ≡ k + length m.entries
+  pub fitted : (m : Made A) → out ≡ Ok m → k ≤ job.places → count m.after ≤ job.places
 
 abbrev pub entries_made : Progress → ℕ
 entries_made g = g.entries
 
 -- Something carried out in a frame from a progress on, by what it is under the limits of its job.
-abbrev pub Carried : Outcome → Frame → Lent → Lent → Progress → (Judging → Progress → Out (Made Progress)) → Type 0
-Carried r f before after g what = Ran entries_made f.job r.status r.progress before after g.entries (what (limits f.job) g)
+abbrev pub Carried : Out Progress → Frame → Lent → Lent → Progress → (Judging → Progress → Out (Made Progress)) → Type 0
+Carried r f before after g what = Ran entries_made f.job r before after g.entries (what (limits f.job) g)
 
 abbrev pub entries_of_program : Program → ℕ
 entries_of_program p = p.progress.entries
 
 -- Lines outside bodies, from a program on.
-abbrev pub Advanced : Advance → Lent → Lent → Program → (Judging → Program → Out (Made Program)) → Type 0
-Advanced r before after p what =
-    Ran entries_of_program p.setup.job r.status r.program before after p.progress.entries (what (limits p.setup.job) p)
+abbrev pub Advanced : Out Program → Lent → Lent → Program → (Judging → Program → Out (Made Program)) → Type 0
+Advanced r before after p what = Ran entries_of_program p.setup.job r before after p.progress.entries (what (limits p.setup.job) p)

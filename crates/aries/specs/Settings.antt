@@ -1,6 +1,7 @@
 -- That setting 1 is document 01, that a text has one setting, and what is the same at both. (Document 02, §1.)
-use Rattle.std.specs.Prelude.{◌≡◌, true, cond, ◌&&◌, List, ℕ, ℤ, pos}
-use Rattle.std.proofs.Math.Option.{Option, none, some}
+use Rattle.std.specs.Prelude.{◌≡◌, true, cond, ◌&&◌, List, ℕ, ℤ, pos, Err, Ok, Option, Some, None, Result}
+use Rattle.aries.specs.declared.refusal.Refusal.{Refusal}
+use Rattle.aries.specs.declared.refusal.Refusal.TheVariants.{BlocksSpent, WordForm, NotListed, WrongNumber}
 use Rattle.aries.specs.declared.block.Kind.{Kind}
 use Rattle.aries.specs.declared.block.Instruction.{Instruction}
 use Rattle.aries.specs.declared.job.Job.{Job}
@@ -13,9 +14,10 @@ use Rattle.aries.specs.declared.state.Frame.{Frame}
 use Rattle.aries.specs.declared.state.State.{State}
 use Rattle.aries.specs.declared.state.Progress.{Progress}
 use Rattle.aries.specs.declared.word.Word.{Word}
-use Rattle.aries.specs.Outcome.{Out, done, ◌>>=◌, need, in_line, Checked, passes, fails}
+use Rattle.aries.specs.Outcome.{Out, ◌>>=◌, need, in_line}
 use Rattle.aries.specs.Words.{LetterWord, words}
-use Rattle.aries.specs.ByLetter.{Words, by_letter}
+use Rattle.aries.specs.ByLetter.{by_letter}
+use Rattle.aries.specs.declared.word.Words.{Words}
 use Rattle.aries.specs.Forms.{in_places, kind_of, is_listed}
 use Rattle.aries.specs.Numbers.{length_of, is_ranged}
 use Rattle.aries.specs.Reader.{reader_at, reader_of}
@@ -31,25 +33,25 @@ use Rattle.aries.specs.CopyBlocks.{Reached}
 
 -- the words of a block by document 01: 5, then 6, of the numbers as they are written; which letters G73 blocks have given is said
 -- beside them
-abbrev pub base_words : Given → List LetterWord → Checked Instruction
+abbrev pub base_words : Given → List LetterWord → Result Instruction Refusal
 base_words given ws =
     let w : Words = by_letter ws in
     let k : Kind = kind_of w in
     cond (in_places ws && is_listed given w k)
-    (cond (is_ranged w.letters k) (passes (instruction_of k w.measure w.letters)) (fails 6))
-    (fails 5)
+    (cond (is_ranged w.letters k) (Ok (instruction_of k w.measure w.letters)) (Err WrongNumber))
+    (Err NotListed)
 
 -- a line by document 01: 4, and then the words
-abbrev pub base_decoded : Given → Option (List LetterWord) → Checked Instruction
-base_decoded given none = fails 4
-base_decoded given (some ws) = base_words given ws
+abbrev pub base_decoded : Given → Option (List LetterWord) → Result Instruction Refusal
+base_decoded given None = Err WordForm
+base_decoded given (Some ws) = base_words given ws
 
 -- a block begins by document 01: 3, then 4 to 6
 abbrev pub base_begin : Judging → ℕ → List ℕ → Progress → Out Begun
 base_begin j line l g = do
-  _ ← need (may_come j l g) 3 line
+  _ ← need (may_come j l g) BlocksSpent line
   i ← in_line line (base_decoded g.state.given (words l))
-  done (begun_by l g i)
+  Ok (begun_by l g i)
 
 -- At every number but 0 a text means what document 01 says: it means what it does at 1, and there each block begins and
 -- each U line finds its own V line as document 01 has it. Nothing else reads a line.

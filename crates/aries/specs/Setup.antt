@@ -1,23 +1,23 @@
 -- What G92, G93 and G98 set up: the machine, the layout and the origin. (Document 01, "Moving and punching", "Macros and
 -- layouts"; refusals 8 and 15.)
-use Rattle.std.specs.Prelude.{ℕ}
+use Rattle.std.specs.Prelude.{ℕ, Ok, Option, None, Some}
+use Rattle.aries.specs.declared.block.Layout.{Layout}
+use Rattle.aries.specs.declared.refusal.Refusal.TheVariants.{TooFar}
 use Rattle.aries.specs.declared.job.Job.{Job}
 use Rattle.aries.specs.declared.point.Point.{Point}
 use Rattle.aries.specs.declared.block.Axes.{Axes}
 use Rattle.aries.specs.declared.machine.Machine.{Machine}
 use Rattle.aries.specs.declared.machine.Machine.TheVariants.{Aries222}
-use Rattle.aries.specs.declared.setup.Sheet.{Sheet}
-use Rattle.aries.specs.declared.setup.Sheet.TheVariants.{Plain, LaidOut}
 use Rattle.aries.specs.declared.setup.Setup.{Setup}
 use Rattle.aries.specs.declared.state.Frame.{Frame}
-use Rattle.aries.specs.Outcome.{Out, done, ◌>>=◌, need}
+use Rattle.aries.specs.Outcome.{Out, ◌>>=◌, need}
 use Rattle.aries.specs.Judging.{Judging, judged, near}
 use Rattle.aries.specs.Mirrors.{no_mirror}
 use Rattle.aries.specs.Moves.{zero_point, ◌⊕◌, written_over}
 
 -- At the start reference and offset are zero. G92 names the machine before any range is judged.
 abbrev pub fresh_setup : Job → Setup
-fresh_setup job = record { job = job; machine = Aries222; sheet = Plain; offset = zero_point; origin = zero_point }
+fresh_setup job = record { job = job; machine = Aries222; sheet = None; offset = zero_point; origin = zero_point }
 
 abbrev pub with_machine : Setup → Machine → Setup
 with_machine s m = record { job = s.job; machine = m; sheet = s.sheet; offset = s.offset; origin = s.origin }
@@ -35,20 +35,20 @@ frame_at f p = record { job = f.job; machine = f.machine; origin = p; mirror = f
 -- ---- G93 and G98: the origin is reference plus offset
 
 -- the reference point that G98 set, zero before
-abbrev pub reference_of : Sheet → Point
-reference_of Plain = zero_point
-reference_of (LaidOut l) = l.reference
+abbrev pub reference_of : Option Layout → Point
+reference_of None = zero_point
+reference_of (Some l) = l.reference
 
 -- what G93 leaves with another offset, and G98 with another layout: G98 leaves the offset of G93 in force
-abbrev pub with_origin : Setup → Sheet → Point → Setup
+abbrev pub with_origin : Setup → Option Layout → Point → Setup
 with_origin s sheet offset = record { job = s.job; machine = s.machine; sheet = sheet; offset = offset; origin = reference_of sheet ⊕ offset }
 
 -- 15: the origin does not pass the limit, whether or not a block uses it
-unfoldable pub set_origin : Judging → ℕ → Sheet → Point → Setup → Out Setup
+unfoldable pub set_origin : Judging → ℕ → Option Layout → Point → Setup → Out Setup
 unfolding near
 set_origin j line sheet offset s = do
-  _ ← need (judged j.bounds (near (reference_of sheet ⊕ offset))) 15 line
-  done (with_origin s sheet offset)
+  _ ← need (judged j.bounds (near (reference_of sheet ⊕ offset))) TooFar line
+  Ok (with_origin s sheet offset)
 
 -- G93 sets the offset of the axes it names, whether G90 or G91 holds; an axis not named keeps its offset.
 abbrev pub offset_by : Axes → Point → Point

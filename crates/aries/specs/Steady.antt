@@ -1,7 +1,7 @@
 -- How far mirrors reach. A frame has at most one mirror for each open call, and the a and b of each are no longer than a word can
 -- say, so that points before the mirrors are not much farther away than points after them. What functions ask of a frame and of
 -- the letters given, and what every text keeps.
-use Rattle.std.specs.Prelude.{◌≡◌, true, List, ℕ, ◌+◌, ◌*◌, ◌≤◌, nat_abs}
+use Rattle.std.specs.Prelude.{◌≡◌, true, List, ℕ, ◌+◌, ◌*◌, ◌≤◌, nat_abs, Ok, pos, unwrap_or}
 use Rattle.aries.specs.declared.block.Axes.{Axes}
 use Rattle.aries.specs.declared.block.Call.{Call}
 use Rattle.aries.specs.declared.block.Call.TheVariants.{Plain, Mirrored}
@@ -10,7 +10,6 @@ use Rattle.aries.specs.declared.block.Instruction.{Instruction}
 use Rattle.aries.specs.declared.reader.Reader.{Reader}
 use Rattle.aries.specs.declared.state.Frame.{Frame}
 use Rattle.aries.specs.declared.state.State.{State}
-use Rattle.aries.specs.Outcome.{passes}
 use Rattle.aries.specs.Blocks.{decode}
 use Rattle.aries.specs.Judging.{farthest, is_near, near}
 use Rattle.aries.specs.Macros.{most_calls}
@@ -31,8 +30,8 @@ pub record Steady (left : ℕ) (f : Frame) : Type 0 where
 
 -- X and Y of a block are no longer than a word can say
 pub record AxesNear (a : Axes) : Type 0 where
-  pub x : is_near a.x.value ≡ true
-  pub y : is_near a.y.value ≡ true
+  pub x : is_near (unwrap_or a.x (pos 0)) ≡ true
+  pub y : is_near (unwrap_or a.y (pos 0)) ≡ true
 
 -- so are those that G73 blocks have given
 abbrev pub GivenNear : State → Type 0
@@ -44,4 +43,4 @@ CallNear (Mirrored m) = AxesNear m.axes
 
 -- So it is with every line that is a call: X and Y of a G73 are words, or absent and 0.
 abbrev pub CallsNear : Type 0
-CallsNear = (r : Reader) (l : List ℕ) (i : Instruction) (c : Call) → decode r l ≡ passes i → i.block ≡ Block.Call c → CallNear c
+CallsNear = (r : Reader) (l : List ℕ) (i : Instruction) (c : Call) → decode r l ≡ Ok i → i.block ≡ Block.Call c → CallNear c

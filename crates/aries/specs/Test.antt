@@ -1,6 +1,5 @@
 -- Tests and their combinations.
 use Rattle.std.specs.Prelude.{Bool, true, false, ◌&&◌, ◌||◌, List, [], ◌∷◌, ℕ, leb, eqb}
-use Rattle.std.proofs.Math.Option.{Option, none, some}
 
 -- a ≤ x ≤ b
 abbrev pub within : ℕ → ℕ → ℕ → Bool
@@ -25,8 +24,3 @@ any_of f (a ∷ rest) = f a || any_of f rest
 abbrev pub is_empty : {A : Type 0} → List A → Bool
 is_empty [] = true
 is_empty (a ∷ rest) = false
-
--- there is a value
-abbrev pub is_some : {A : Type 0} → Option A → Bool
-is_some none = false
-is_some (some a) = true

@@ -1,6 +1,5 @@
 -- The program text as bytes: which are allowed, lines, and spaces. (Document 01, "Text, words, units"; refusals 1 and 2.)
-use Rattle.std.specs.Prelude.{Bool, true, false, ◌||◌, List, [], ◌∷◌, ℕ, suc, eqb, get_or}
-use Rattle.std.proofs.Math.Option.{Option, none, some}
+use Rattle.std.specs.Prelude.{Bool, true, false, ◌||◌, List, [], ◌∷◌, ℕ, suc, eqb, get_or, None, Option, Some}
 use Prim.Native.Char.{code}
 use Prim.Native.String.{String}
 use Prim.Native.String as S
@@ -46,9 +45,9 @@ starts_with letter l = eqb (get_or l 0 0) letter
 
 -- the line of the first byte that is not allowed; the text starts in the line given
 unfoldable pub stray_line : ℕ → List ℕ → Option ℕ
-stray_line line [] = none
+stray_line line [] = None
 stray_line line (b ∷ bs) = elim (is_allowed b) [
-  | false ↦ some line
+  | false ↦ Some line
   | true ↦ elim (eqb b line_feed) [ true ↦ stray_line (suc line) bs | false ↦ stray_line line bs ]
 ]
 

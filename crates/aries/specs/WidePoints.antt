@@ -1,10 +1,8 @@
 -- A place as the code computes it, as the point that it is.
-use Rattle.std.specs.Prelude.{cond, ◌≤◌, nat_abs}
+use Rattle.std.specs.Prelude.{cond, ◌≤◌, nat_abs, Option, None, Some}
 use Rattle.signed.specs.Signed.{wide_limit}
 use Rattle.aries.specs.declared.point.Point.{Point}
 use Rattle.aries.specs.declared.point.WidePoint.{WidePoint}
-use Rattle.aries.specs.declared.point.Located.{Located}
-use Rattle.aries.specs.declared.point.Located.TheVariants.{At, TooFar}
 use Rattle.aries.specs.Judging.{near}
 
 abbrev pub point_of : WidePoint → Point
@@ -16,5 +14,5 @@ pub record Moderate (p : WidePoint) : Type 0 where
   pub y : nat_abs p.y ≤ wide_limit
 
 -- what 15 makes of a point
-abbrev pub located : Point → Located
-located p = cond (near p) (At p) TooFar
+abbrev pub located : Point → Option Point
+located p = cond (near p) (Some p) None

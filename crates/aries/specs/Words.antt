@@ -1,6 +1,5 @@
 -- Words: their form and their values, and the words of a line in their order. (Document 01, "Text, words, units"; refusal 4.)
-use Rattle.std.specs.Prelude.{Bool, true, false, cond, ◌&&◌, List, [], ◌∷◌, ℕ, zero, suc, ◌+◌, ◌-◌, ◌*◌, leb, eqb, length, get_or, drop}
-use Rattle.std.proofs.Math.Option.{Option, none, some}
+use Rattle.std.specs.Prelude.{Bool, true, false, cond, ◌&&◌, List, [], ◌∷◌, ℕ, zero, suc, ◌+◌, ◌-◌, ◌*◌, leb, eqb, length, get_or, drop, None, Option, Some}
 use Rattle.signed.specs.Signed.{with_sign}
 use Rattle.aries.specs.declared.word.Word.{Word}
 use Rattle.aries.specs.Test.{among}
@@ -34,14 +33,14 @@ pub record LetterWord : Type 0 where
   pub word : Word
   pub size : ℕ
 
--- a word that is written, by its sign, its point and its number
+-- a word by its sign, its point and its number
 abbrev pub word_of : Bool → Bool → Bool → ℕ → Word
-word_of signed negative pointed number = record { written = true; signed = signed; pointed = pointed; value = with_sign negative number }
+word_of signed negative pointed number = record { signed = signed; pointed = pointed; value = with_sign negative number }
 
 -- a word without a point: 1 to 6 digits, front bytes before them
 abbrev pub whole_word : List ℕ → ℕ → Digits → Option LetterWord
 whole_word bs front whole =
-    some (record {
+    Some (record {
       letter = get_or bs 0 0;
       word = word_of (is_sign (get_or bs 1 0)) (eqb (get_or bs 1 0) minus) false whole.value;
       size = front + whole.count;
@@ -51,12 +50,12 @@ whole_word bs front whole =
 abbrev pub point_word : List ℕ → ℕ → Digits → Digits → Option LetterWord
 point_word bs front whole decimals =
     cond (leb whole.count 4)
-    (some (record {
+    (Some (record {
       letter = get_or bs 0 0;
       word = word_of (is_sign (get_or bs 1 0)) (eqb (get_or bs 1 0) minus) true (hundredths whole decimals);
       size = front + whole.count + 1 + decimals.count;
     }))
-    none
+    None
 
 -- the bytes before the digits: the letter, and the sign if there is one
 abbrev pub front_size : List ℕ → ℕ
@@ -69,7 +68,7 @@ word_from bs front whole =
     (cond (eqb (get_or bs (front + whole.count) 0) point)
     (point_word bs front whole (digits 2 0 0 (drop (front + whole.count + 1) bs)))
     (whole_word bs front whole))
-    none
+    None
 
 -- The word at the front of a line: a capital letter, an optional sign, then 1 to 6 digits, or 1 to 4 digits, a point
 -- and 0 to 2 digits. What does not fit is left to the next word, which it cannot begin.
@@ -82,7 +81,7 @@ word bs = word_from bs (front_size bs) (digits 6 0 0 (drop (front_size bs) bs))
 unfoldable pub front_words : ℕ → List ℕ → List LetterWord
 unfolding word
 front_words zero bs = []
-front_words (suc most) bs = elim (word bs) [ none ↦ [] | some r ↦ r ∷ front_words most (drop r.size bs) ]
+front_words (suc most) bs = elim (word bs) [ None ↦ [] | Some r ↦ r ∷ front_words most (drop r.size bs) ]
 
 -- these words, of a whole line
 abbrev pub formed_words : List ℕ → List LetterWord
@@ -96,4 +95,4 @@ size_of (r ∷ rs) = r.size + size_of rs
 -- The words of a line; none where one has not the form, which is where those before it leave bytes over.
 unfoldable pub words : List ℕ → Option (List LetterWord)
 unfolding front_words
-words line = cond (eqb (size_of (formed_words line)) (length line)) (some (formed_words line)) none
+words line = cond (eqb (size_of (formed_words line)) (length line)) (Some (formed_words line)) None

@@ -31,18 +31,11 @@ pub enum Kind {
     G73,
 }
 
-// One axis of a block: its value where it is written.
-#[derive(Clone, Copy)]
-pub struct Axis {
-    pub written: bool,
-    pub value: i32,
-}
-
-// The X and Y words of a block.
+// The X and Y words of a block: the number of each, where it is written.
 #[derive(Clone, Copy)]
 pub struct Axes {
-    pub x: Axis,
-    pub y: Axis,
+    pub x: Option<i32>,
+    pub y: Option<i32>,
 }
 
 impl Axes {
@@ -50,16 +43,10 @@ impl Axes {
     pub fn over(self, before: Point) -> Point
         ensures { result ≡ written_over self before }
     {
-        let x = self.x;
-        let y = self.y;
-        let mut point = before;
-        if x.written {
-            point.x = x.value;
+        Point {
+            x: self.x.unwrap_or(before.x),
+            y: self.y.unwrap_or(before.y),
         }
-        if y.written {
-            point.y = y.value;
-        }
-        point
     }
 }
 
@@ -132,7 +119,8 @@ pub struct Layout {
     pub steps: Steps,
 }
 
-// A G75 block, or with vertical a G76 block: the part that it copies and the corner where it starts, by Q.
+// A G75 block, or with vertical a G76 block: the part that it copies and the corner where it starts, by Q. Q stays a number here and
+// in Mirroring, since what is proved of copies and mirrored parts holds of every number.
 #[derive(Clone, Copy)]
 pub struct Copies {
     pub vertical: bool,
@@ -207,31 +195,16 @@ pub enum Block {
     Outside(Outside),
 }
 
-// How X and Y are read from a block on: as before, by G90 or by G91.
+// How X and Y are read from a block on: by G90 or by G91.
 #[derive(Clone, Copy)]
 pub enum Measure {
-    Unchanged,
     Absolute,
     Incremental,
 }
 
-// A block with the G90 or G91 that stands in it.
+// A block with the G90 or G91 that stands in it, if one does.
 #[derive(Clone, Copy)]
 pub struct Instruction {
-    pub measure: Measure,
+    pub measure: Option<Measure>,
     pub block: Block,
-}
-
-// What a line comes to: an instruction, and the place where the line ends; or a refusal's number.
-#[derive(Clone, Copy)]
-pub enum Decoded {
-    Instruction(Instruction, usize),
-    Refused(u8),
-}
-
-// What a block is judged to be: of a kind, with its G90 or G91, or a refusal's number.
-#[derive(Clone, Copy)]
-pub enum Judged {
-    Of(Kind, Measure),
-    Refused(u8),
 }

@@ -40,7 +40,7 @@ impl Entry {
                 Numbers {
                     x: place.x,
                     y: place.y,
-                    tool: signed::of_count(hit.tool as u16),
+                    tool: i32::from(hit.tool),
                     mode: mode_number(hit.nibble),
                 }
             }

@@ -2,10 +2,10 @@
 // What they mean is said by the definitions in specs/, which follow document 01 in its order.
 #![tactic(auto)]
 
-pub mod answer; // what a text comes to
 pub mod block; // what a block asks for
 pub mod entry; // the entries of the list
 pub mod job; // what the caller fixes
+pub mod location; // places of the text
 pub mod machine; // the two machines and their punching range
 pub mod macros; // the bodies that are stored
 pub mod mirror; // how a frame is seen while mirrors are open

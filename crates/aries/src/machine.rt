@@ -11,13 +11,6 @@ pub enum Machine {
     Aries224,
 }
 
-// The machine that a G92 pair names, if any.
-#[derive(Clone, Copy)]
-pub enum Named {
-    As(Machine),
-    Neither,
-}
-
 impl Machine {
     // the ends of the punching range, in hundredths
     pub const LEAST: i32 = -1_020;
@@ -34,21 +27,20 @@ impl Machine {
 
     pub const FAR_Y: i32 = 60_000;
 
-    // The machine of a G92 pair.
-    pub fn named(pair: Point) -> Named
+    // The machine that a G92 pair names, if any.
+    #[tactic(auto, unfolding(crate::specs::Machine::named, crate::specs::Machine::is_pair))]
+    pub fn named(pair: Point) -> Option<Machine>
         ensures { result ≡ named pair }
     {
-        let x = pair.x;
-        let y = pair.y;
-        if signed::equal(y, Machine::FAR_Y) {
-            if signed::equal(x, Machine::FAR_222) {
-                return Named::As(Machine::Aries222);
+        if pair.y == Machine::FAR_Y {
+            if pair.x == Machine::FAR_222 {
+                return Some(Machine::Aries222);
             }
-            if signed::equal(x, Machine::FAR_224) {
-                return Named::As(Machine::Aries224);
+            if pair.x == Machine::FAR_224 {
+                return Some(Machine::Aries224);
             }
         }
-        Named::Neither
+        None
     }
 
     // The right end of the range.
@@ -62,15 +54,11 @@ impl Machine {
     }
 
     // Whether a place is in the punching range.
+    #[tactic(auto, unfolding(crate::specs::Machine::covers))]
     pub fn covers(self, p: WidePoint) -> bool
         ensures { result ≡ covers self (point_of p) }
     {
-        let x = p.x;
-        let y = p.y;
-        if signed::between(Machine::LEAST, x, self.right()) {
-            signed::between(Machine::LEAST, y, Machine::TOP)
-        } else {
-            false
-        }
+        signed::between(Machine::LEAST, p.x, self.right())
+            && signed::between(Machine::LEAST, p.y, Machine::TOP)
     }
 }

@@ -1,23 +1,30 @@
-ghost use Rattle.std.specs.Prelude.{◌≡◌, ◌-◌, ◌≤◌, length};
+ghost use Rattle.std.specs.Prelude.{◌≡◌, ◌-◌, ◌≤◌};
 ghost use Rattle.aries.specs.Macros.{no_macros, storing, characters, found_in};
 
 // A slot for each macro number from 0 on, which no macro has, to 89.
 pub const SLOTS: usize = 90;
 
-// The stored bodies, by macro number: where each starts and ends in the text without spaces, and the line of its
-// start. Line 0 says that nothing is stored.
+// Where a stored body starts and ends in the text without spaces, and the line of its start.
 #[derive(Clone, Copy)]
-pub struct Macros {
-    pub start: [u16; SLOTS],
-    pub end: [u16; SLOTS],
-    pub line: [u16; SLOTS],
+pub struct StoredBody {
+    pub start: u16,
+    pub end: u16,
+    pub line: u16,
 }
 
-// A stored body: where it starts and ends, and the line of its start.
+impl StoredBody {
+    // Its characters.
+    fn size(self) -> usize
+        ensures { (result ≡ self.end - self.start) × (result ≤ 65535) }
+    {
+        self.end.saturating_sub(self.start) as usize
+    }
+}
+
+// The stored bodies, by macro number.
 #[derive(Clone, Copy)]
-pub enum Found {
-    Body(usize, usize, u16),
-    Nothing,
+pub struct Macros {
+    pub bodies: [Option<StoredBody>; SLOTS],
 }
 
 impl Macros {
@@ -25,82 +32,41 @@ impl Macros {
     pub fn none() -> Macros
         ensures { result ≡ no_macros }
     {
-        let start = [0; SLOTS];
-        let end = [0; SLOTS];
-        let line = [0; SLOTS];
-        Macros { start, end, line }
+        Macros {
+            bodies: [None; SLOTS],
+        }
     }
 
     // The body of a macro.
-    pub fn find(self, number: u8) -> Found
-        ensures { result ≡ found_in self number }
+    pub fn find(&self, number: u8) -> Option<StoredBody>
+        ensures { result ≡ found_in self.now number }
     {
-        find_in(&self.start, &self.end, &self.line, number)
+        let n = usize::from(number);
+        if n < SLOTS { self.bodies[n] } else { None }
     }
 
     // With the body of a macro in place of its old one.
-    pub fn storing(mut self, number: u8, start: u16, end: u16, line: u16) -> Macros
-        ensures { result ≡ storing self number start end line }
+    pub fn storing(mut self, number: u8, body: StoredBody) -> Macros
+        ensures { result ≡ storing self number body }
     {
-        let n = number as usize;
-        if SLOTS <= n {
-            return self;
+        let n = usize::from(number);
+        if n < SLOTS {
+            self.bodies[n] = Some(body);
         }
-        self.start[n] = start;
-        self.end[n] = end;
-        self.line[n] = line;
         self
     }
 
     // The characters of all bodies.
-    pub fn characters(self) -> usize
-        ensures { result ≡ characters self }
+    #[tactic(auto, unfolding(crate::specs::Macros::characters))]
+    pub fn characters(&self) -> usize
+        ensures { result ≡ characters self.now }
     {
         let mut total = 0;
-        let mut n = 0;
-        while n < SLOTS {
-            total += size(self.start[n], self.end[n]);
-            n += 1;
+        for slot in &self.bodies {
+            if let Some(body) = slot {
+                total += body.size();
+            }
         }
         total
-    }
-}
-
-// The body of a macro, from the lists of a store that are lent: whoever looks often spares a copy of the store.
-pub fn find_in<'a>(
-    start: &'a [u16; SLOTS],
-    end: &'a [u16; SLOTS],
-    line: &'a [u16; SLOTS],
-    number: u8,
-) -> Found
-    requires { length line.now ≡ 90 }
-    ensures { result ≡ found_in (record { start = start.now; end = end.now; line = line.now }) number }
-{
-    let n = number as usize;
-    if SLOTS <= n {
-        return Found::Nothing;
-    }
-    let first = line[n];
-    if first == 0 {
-        return Found::Nothing;
-    }
-    Found::Body(index(start[n]), index(end[n]), first)
-}
-
-// A place of the text, as it is kept, as an index.
-fn index(place: u16) -> usize
-    ensures { result ≡ place }
-{
-    place as usize
-}
-
-// The characters of a body from one place to another.
-fn size(start: u16, end: u16) -> usize
-    ensures { (result ≡ end - start) × (result ≤ 65535) }
-{
-    if start < end {
-        (end - start) as usize
-    } else {
-        0
     }
 }

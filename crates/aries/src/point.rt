@@ -11,18 +11,16 @@ pub struct Point {
     pub y: i32,
 }
 
+impl Point {
+    // the sheet's zero
+    pub const ZERO: Point = Point { x: 0, y: 0 };
+}
+
 // A point as it is computed, before anything is judged of it.
 #[derive(Clone, Copy)]
 pub struct WidePoint {
     pub x: i64,
     pub y: i64,
-}
-
-// A place, judged by 15.
-#[derive(Clone, Copy)]
-pub enum Located {
-    At(Point),
-    TooFar,
 }
 
 impl WidePoint {
@@ -39,20 +37,15 @@ impl WidePoint {
         }
     }
 
-    // The point of a place, if both coordinates are within the largest size.
-    pub fn located(self) -> Located
+    // The point of a place, if 15 lets it pass: both coordinates are within the largest size.
+    #[tactic(auto, unfolding(crate::specs::Judging::near))]
+    pub fn located(self) -> Option<Point>
         ensures { result ≡ located (point_of self) }
     {
-        let x = self.x;
-        let y = self.y;
-        if signed::size_at_most(x, FARTHEST) {
-            if signed::size_at_most(y, FARTHEST) {
-                return Located::At(Point {
-                    x: signed::narrow(x),
-                    y: signed::narrow(y),
-                });
-            }
+        if signed::size_at_most(self.x, FARTHEST) & signed::size_at_most(self.y, FARTHEST) {
+            Some(self.narrow())
+        } else {
+            None
         }
-        Located::TooFar
     }
 }

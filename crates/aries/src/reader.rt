@@ -14,7 +14,7 @@ impl Setting {
     pub fn of(number: i32) -> Setting
         ensures { result ≡ setting_of number }
     {
-        if signed::equal(number, 0) {
+        if number == 0 {
             Setting::Millimetres
         } else {
             Setting::Hundredths

@@ -1,37 +1,52 @@
+ghost use Rattle.std.specs.Prelude.{◌≡◌};
+ghost use Rattle.aries.specs.Outcome.{refusal_number};
+
 // The refusals by their numbers, in checking order but for the last.
-pub const TEXT_LENGTH: u8 = 1;
+#[derive(Clone, Copy, Debug, PartialEq, Eq)]
+pub enum Refusal {
+    TextLength = 1,
+    StrayByte = 2,
+    BlocksSpent = 3,
+    WordForm = 4,
+    NotListed = 5,
+    WrongNumber = 6,
+    OutOfPlace = 7,
+    NoMachine = 8,
+    NotClosed = 9,
+    NotStored = 10,
+    TooDeep = 11,
+    StoreFull = 12,
+    NoLayout = 13,
+    NoTool = 14,
+    TooFar = 15,
+    OutOfRange = 16,
+    ListFull = 17,
+    // of G66, judged before the four above
+    ShearUnfit = 18,
+}
 
-pub const STRAY_BYTE: u8 = 2;
+// A refusal and its line: that of the block, or 0 where no line is at fault.
+#[derive(Clone, Copy, Debug, PartialEq, Eq)]
+pub struct Refused {
+    pub refusal: Refusal,
+    pub line: u64,
+}
 
-pub const BLOCKS_SPENT: u8 = 3;
+impl Refusal {
+    // Its number.
+    pub fn number(self) -> u8
+        ensures { result ≡ refusal_number self }
+    {
+        self as u8
+    }
 
-pub const WORD_FORM: u8 = 4;
-
-pub const NOT_LISTED: u8 = 5;
-
-pub const WRONG_NUMBER: u8 = 6;
-
-pub const OUT_OF_PLACE: u8 = 7;
-
-pub const NO_MACHINE: u8 = 8;
-
-pub const NOT_CLOSED: u8 = 9;
-
-pub const NOT_STORED: u8 = 10;
-
-pub const TOO_DEEP: u8 = 11;
-
-pub const STORE_FULL: u8 = 12;
-
-pub const NO_LAYOUT: u8 = 13;
-
-pub const NO_TOOL: u8 = 14;
-
-pub const TOO_FAR: u8 = 15;
-
-pub const OUT_OF_RANGE: u8 = 16;
-
-pub const LIST_FULL: u8 = 17;
-
-// Of G66, judged before the four above.
-pub const SHEAR_UNFIT: u8 = 18;
+    // The refusal in a line.
+    pub fn at(self, line: u64) -> Refused
+        ensures { result ≡ record { refusal = self; line = line } }
+    {
+        Refused {
+            refusal: self,
+            line,
+        }
+    }
+}

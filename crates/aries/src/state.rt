@@ -1,6 +1,4 @@
-ghost use Rattle.std.specs.Prelude.{◌≡◌, true, ◌-◌, ◌<◌, get_or};
-ghost use Rattle.aries.specs.declared.state.Waiting.TheVariants.{At};
-ghost use Rattle.aries.specs.declared.state.Status.TheVariants.{Passed, Refused};
+ghost use Rattle.std.specs.Prelude.{◌≡◌, true, ◌-◌, ◌<◌, get_or, Some, None};
 ghost use Rattle.aries.specs.Moves.{
   moved_to,
   waiting_for,
@@ -15,7 +13,7 @@ ghost use Rattle.aries.specs.Moves.{
   fresh_progress,
   with_state,
 };
-ghost use Rattle.aries.specs.Patterns.{start_of, empty_memory};
+ghost use Rattle.aries.specs.Patterns.{start_of};
 ghost use Rattle.aries.specs.Macros.{begun};
 ghost use Rattle.aries.specs.Judging.{most_blocks, near};
 ghost use Rattle.aries.specs.Machine.{in_range};
@@ -32,42 +30,18 @@ use crate::mirror::Mirror;
 use crate::point::{Point, WidePoint};
 use crate::reader::{Given, Reader};
 
-// The pattern origin that G72 set and no pattern has used up yet.
-#[derive(Clone, Copy)]
-pub enum Waiting {
-    Unset,
-    At(Point),
-}
-
-// What waits, as a part of the state that is replaced as a whole.
-#[derive(Clone, Copy)]
-pub struct Pending {
-    pub origin: Waiting,
-}
-
-// A pattern memory.
-#[derive(Clone, Copy)]
-pub enum Stored {
-    Empty,
-    Kept(Pattern),
-}
-
-#[derive(Clone, Copy)]
-pub struct Memory {
-    pub stored: Stored,
-}
-
 // How many pattern memories there are.
 pub const MEMORIES: usize = 5;
 
 // The punching state: what a block of a body leaves to the next. A tool of 0 is none chosen. The memories, most of its
-// bytes, stand first, where they are copied aligned. Spans are X and Y as G73 blocks have given them last, and zero before.
+// bytes, stand first, where they are copied aligned. Spans are X and Y as G73 blocks have given them last, and zero before; waiting
+// is the pattern origin that G72 set and no pattern has used up yet.
 #[derive(Clone, Copy)]
 pub struct State {
-    pub memories: [Memory; MEMORIES],
+    pub memories: [Option<Pattern>; MEMORIES],
     pub current: Point,
     pub spans: Point,
-    pub waiting: Pending,
+    pub waiting: Option<Point>,
     pub incremental: bool,
     pub nibble: bool,
     pub tool: u8,
@@ -79,24 +53,15 @@ impl State {
     pub fn fresh() -> State
         ensures { result ≡ fresh_state }
     {
-        let current = Point { x: 0, y: 0 };
-        let empty = Memory {
-            stored: Stored::Empty,
-        };
-        let memories = [empty; MEMORIES];
-        let waiting = Pending {
-            origin: Waiting::Unset,
-        };
-        let given = Given { x: false, y: false };
         State {
-            current,
-            spans: current,
-            waiting,
+            memories: [None; MEMORIES],
+            current: Point::ZERO,
+            spans: Point::ZERO,
+            waiting: None,
             incremental: false,
             nibble: false,
             tool: 0,
-            memories,
-            given,
+            given: Given { x: false, y: false },
         }
     }
 
@@ -108,27 +73,20 @@ impl State {
         self
     }
 
-    // The state with this as what waits.
-    fn waiting_for(mut self, origin: Waiting) -> State
-        ensures { result ≡ waiting_for self origin }
+    // The state with no pattern origin waiting.
+    pub fn dropping(mut self) -> State
+        ensures { result ≡ dropping self }
     {
-        let waiting = Pending { origin };
-        self.waiting = waiting;
+        self.waiting = None;
         self
     }
 
-    // The state with no pattern origin waiting.
-    pub fn dropping(self) -> State
-        ensures { result ≡ dropping self }
-    {
-        self.waiting_for(Waiting::Unset)
-    }
-
     // The state with a pattern origin waiting.
-    pub fn waiting_at(self, p: Point) -> State
-        ensures { result ≡ waiting_for self (At p) }
+    pub fn waiting_at(mut self, p: Point) -> State
+        ensures { result ≡ waiting_for self (Some p) }
     {
-        self.waiting_for(Waiting::At(p))
+        self.waiting = Some(p);
+        self
     }
 
     // The state at a point, with no pattern origin waiting.
@@ -142,16 +100,11 @@ impl State {
     pub fn giving(mut self, axes: Axes) -> State
         ensures { result ≡ giving self axes }
     {
-        let x = axes.x;
-        let y = axes.y;
-        let before = self.given;
-        let given = Given {
-            x: x.written | before.x,
-            y: y.written | before.y,
+        self.given = Given {
+            x: axes.x.is_some() | self.given.x,
+            y: axes.y.is_some() | self.given.y,
         };
-        let spans = axes.over(self.spans);
-        self.given = given;
-        self.spans = spans;
+        self.spans = axes.over(self.spans);
         self
     }
 
@@ -178,56 +131,42 @@ impl State {
         ensures { result ≡ remembering self n p }
     {
         if 0 < n {
-            let place = (n - 1) as usize;
+            let place = usize::from(n - 1);
             if place < MEMORIES {
-                let memory = Memory {
-                    stored: Stored::Kept(p),
-                };
-                self.memories[place] = memory;
+                self.memories[place] = Some(p);
             }
         }
         self
     }
 
     // The state once a block's G90 or G91 holds.
-    fn measuring(mut self, m: Measure) -> State
-        ensures { result ≡ measuring self m }
+    fn measuring(mut self, measure: Option<Measure>) -> State
+        ensures { result ≡ measuring self measure }
     {
-        match m {
-            Measure::Unchanged => self,
-            Measure::Absolute => {
-                self.incremental = false;
-                self
-            }
-            Measure::Incremental => {
-                self.incremental = true;
-                self
-            }
-        }
+        self.incremental = match measure {
+            None => self.incremental,
+            Some(Measure::Absolute) => false,
+            Some(Measure::Incremental) => true,
+        };
+        self
     }
 
     // Where a pattern starts: at the waiting origin, or else at the current point.
     pub fn start(self) -> Point
         ensures { result ≡ start_of self }
     {
-        let waiting = self.waiting;
-        let origin = waiting.origin;
-        match origin {
-            Waiting::Unset => self.current,
-            Waiting::At(place) => place,
-        }
+        self.waiting.unwrap_or(self.current)
     }
 
     // What pattern memory n holds: nothing past the last one, and for 0 what memory 1 does.
-    pub fn memory(self, n: u8) -> Stored
-        ensures { result ≡ (get_or self.memories (n - 1) empty_memory).stored }
+    pub fn memory(self, n: u8) -> Option<Pattern>
+        ensures { result ≡ get_or self.memories (n - 1) None }
     {
-        let place = if 0 < n { (n - 1) as usize } else { 0 };
+        let place = usize::from(n.saturating_sub(1));
         if place < MEMORIES {
-            let memory = self.memories[place];
-            memory.stored
+            self.memories[place]
         } else {
-            Stored::Empty
+            None
         }
     }
 }
@@ -328,52 +267,16 @@ impl Progress {
     }
 
     // A block begins, with its G90 or G91: one more, if it counts.
-    pub fn begun(mut self, counted: bool, m: Measure) -> Progress
+    pub fn begun(mut self, counted: bool, measure: Option<Measure>) -> Progress
         requires { counted ≡ true → self.blocks < most_blocks }
-        ensures { result ≡ begun counted m self }
+        ensures { result ≡ begun counted measure self }
     {
         let state = self.state;
-        let measured = state.measuring(m);
+        let measured = state.measuring(measure);
         self.state = measured;
         if counted {
             self.blocks += 1;
         }
         self
-    }
-}
-
-// Whether all went well, or a refusal's number and line.
-#[derive(Clone, Copy)]
-pub enum Status {
-    Passed,
-    Refused(u8, u64),
-}
-
-// What carrying something out leaves. After a refusal the progress is of no account.
-#[derive(Clone, Copy)]
-pub struct Outcome {
-    pub status: Status,
-    pub progress: Progress,
-}
-
-impl Outcome {
-    // All went well.
-    pub fn passed(progress: Progress) -> Outcome
-        ensures { result ≡ record { status = Passed; progress = progress } }
-    {
-        Outcome {
-            status: Status::Passed,
-            progress,
-        }
-    }
-
-    // A refusal, at a line.
-    pub fn refused(number: u8, line: u64, progress: Progress) -> Outcome
-        ensures { result ≡ record { status = Refused number line; progress = progress } }
-    {
-        Outcome {
-            status: Status::Refused(number, line),
-            progress,
-        }
     }
 }

@@ -1,5 +1,6 @@
 -- Laws of counting: where no letter stands twice, the letters of a block fit those of its kind exactly when the counts do.
 -- Assumes nothing.
+use Rattle.std.specs.Prelude.{None, Some, is_some}
 use mathlib.Core.Path.{◌≡◌, refl, ap, ◌∙◌}
 use mathlib.Core.Bool.{Bool, true, false, not, cond, ◌&&◌, ◌||◌, and-true}
 use mathlib.Core.List.{List, [], ◌∷◌, ◌++◌, append-nil, append_assoc}
@@ -19,15 +20,16 @@ use Rattle.aries.specs.Letters.{letter_g, letter_n, index_of}
 use Rattle.aries.specs.Test.{among, every, any_of}
 use Rattle.aries.specs.Text.{bytes, is_capital}
 use Rattle.aries.specs.Words.{LetterWord}
-use Rattle.aries.specs.ByLetter.{Letters, no_word, has, by_letter}
-use Rattle.aries.specs.Forms.{in_place, in_place_after, in_places, stands_once, form_of, listed, other_letters, is_listed_or_absent, letters_fit, is_listed}
-use Rattle.words.specs.Keeping.{others_in, summary_of}
+use Rattle.aries.specs.ByLetter.{Letters, has, by_letter}
+use Rattle.aries.specs.Forms.{in_place, in_place_after, in_places, stands_once, form_of, listed, other_letters, is_listed_or_absent, letters_fit, kind_fits, beside_fits, is_listed}
+use Rattle.words.specs.Line.{others_in, line_of}
 use Rattle.words.proofs.Bytes.{capital_low, capital_high}
 use Rattle.words.proofs.Word.{WellFormed}
 use Rattle.words.proofs.ByLetter.{by_letter_g, by_letter-set}
-use Rattle.words.proofs.Summaries.{measure_back, others_more}
+use Rattle.words.proofs.Adding.{others_more}
 use Rattle.words.proofs.Gathering.{AllFormed, same_test}
-use Rattle.blocks.specs.Counting.{passing, present, count_fits, is_counted}
+use Rattle.words.specs.declared.Line.{Line}
+use Rattle.blocks.specs.Counting.{passing, present, counts_fit, form_counts, is_counted}
 
 -- ---- Counts and tests
 
@@ -58,6 +60,10 @@ module _ (t u : ℕ → Bool) where
       go true false rest = rw zero-add rest
       go false true rest = ne_eqb (1 + n) 0 (λ e. omega arith)
       go false false rest = rw zero-add rest
+
+passing-append : (t : ℕ → Bool) (ks ls : List ℕ) → passing t (ks ++ ls) ≡ passing t ks + passing t ls
+passing-append t [] ls = omega arith
+passing-append t (k ∷ ks) ls = omega (arith, passing-append t ks ls)
 
 passing-all : (ls : List ℕ) → passing (λ (l : ℕ). true) ls ≡ length ls
 passing-all [] = refl
@@ -126,10 +132,21 @@ module _ (w : Letters) where
       ∙ passing_none (has w) t other_letters
 
   -- where the words besides N and G are as many as these letters
-  count_fits_lem : (n : ℕ) (k : Kind) → n ≡ present w other_letters → count_fits w n (form_of k) ≡ letters_fit w (form_of k)
-  unfolding count_fits letters_fit
-  count_fits_lem n k e =
-      simp (e, passing-every (has w) (bytes (form_of k).must), passing_any (has w) (bytes (form_of k).one_of), count-others k)
+  count_fits_lem : (l : Line) (k : Kind) → l.words.letters ≡ w → l.others ≡ present w other_letters → form_counts l (form_of k) ≡ letters_fit w (form_of k)
+  unfolding counts_fit letters_fit
+  count_fits_lem l k e f =
+      let must = bytes (form_of k).must in
+      let one_of = bytes (form_of k).one_of in
+      let may = bytes (form_of k).may in
+      simp (
+        e,
+        f,
+        ← passing-append (has w) one_of may,
+        ← passing-append (has w) must (one_of ++ may),
+        passing-every (has w) must,
+        passing_any (has w) one_of,
+        count-others k,
+      )
 
 -- ---- Words that are counted
 
@@ -168,17 +185,16 @@ capital_once l c =
 
 -- a word is set in its place
 module _
-    (w : Letters) (l : ℕ) (v : Word) (all : length w ≡ 26) (c : is_capital l ≡ true) (written : v.written ≡ true)
-    (new : has w l ≡ false)
+    (w : Letters) (l : ℕ) (v : Word) (all : length w ≡ 26) (c : is_capital l ≡ true) (new : has w l ≡ false)
   where
     abbrev with_word : Letters
-    with_word = set w (index_of l) v
+    with_word = set w (index_of l) (Some v)
 
     has_same : has with_word l ≡ true
-    has_same = ap (λ (u : Word). u.written) (get_or-set_same w (index_of l) v no_word (omega (arith, capital_high l c))) ∙ written
+    has_same = ap is_some (get_or-set_same w (index_of l) (Some v) None (omega (arith, capital_high l c)))
 
     has_other : (m : ℕ) → 65 ≤ m → (m ≡ l → ⊥) → has with_word m ≡ has w m
-    has_other m h ne = ap (λ (u : Word). u.written) (get_or-set_other w (index_of l) (index_of m) v no_word (λ f. ne (omega (arith, capital_low l c))))
+    has_other m h ne = ap is_some (get_or-set_other w (index_of l) (index_of m) (Some v) None (λ f. ne (omega (arith, capital_low l c))))
 
     present-set :
         (ls : List ℕ) → every (leb 65) ls ≡ true → present with_word ls ≡ present w ls + passing (λ (m : ℕ). eqb m l) ls
@@ -224,9 +240,9 @@ counted_more ws r f p n = go (eqb r.letter letter_g) refl
         let v : Letters = (by_letter ws).letters in
         let new = new_letter ws r p e in
         rw (by_letter-set ws r g) (
-          length-set v (index_of r.letter) r.word ∙ n.0,
+          length-set v (index_of r.letter) (Some r.word) ∙ n.0,
           others_more ws r
-              ∙ omega (arith, n.1, present-set v r.letter r.word n.0 f.capital f.written new other_letters others_capital, capital_once r.letter f.capital),
+              ∙ omega (arith, n.1, present-set v r.letter r.word n.0 f.capital new other_letters others_capital, capital_once r.letter f.capital),
         )
 
 after-counted :
@@ -251,13 +267,14 @@ all-counted ws f p = (after-counted [] ws f p none_counted).1
 
 -- a block is refused by counting where it is by the definition
 pub is_counted_lem :
-    (given : Given) (formed : Bool) (end : ℕ) (ws : List LetterWord) (k : Kind) → AllFormed ws
-    → is_counted given (by_letter ws).letters (summary_of formed end ws) k ≡ (in_places ws && is_listed given (by_letter ws) k)
-unfolding is_counted is_listed summary_of
-is_counted_lem given formed end ws k f = go (in_places ws) refl
+    (given : Given) (ws : List LetterWord) (k : Kind) → AllFormed ws
+    → is_counted given (line_of ws) k ≡ (in_places ws && is_listed given (by_letter ws) k)
+unfolding is_counted is_listed line_of in_places counts_fit
+is_counted_lem given ws k f = go (in_places ws) refl
   where
-    go :
-        (p : Bool) → in_places ws ≡ p
-        → is_counted given (by_letter ws).letters (summary_of formed end ws) k ≡ (in_places ws && is_listed given (by_letter ws) k)
+    go : (p : Bool) → in_places ws ≡ p → is_counted given (line_of ws) k ≡ (in_places ws && is_listed given (by_letter ws) k)
     go false p = simp p
-    go true p = simp (p, measure_back (by_letter ws).measure, count_fits_lem (by_letter ws).letters (others_in ws) k (all-counted ws f p))
+    go true p =
+        let counts : form_counts (line_of ws) (form_of k) ≡ letters_fit (by_letter ws).letters (form_of k) =
+        count_fits_lem (by_letter ws).letters (line_of ws) k refl (all-counted ws f p) in
+        simp p (ap (λ (t : Bool). kind_fits given (by_letter ws).letters k && (beside_fits (by_letter ws).measure (form_of k).beside && t)) counts)

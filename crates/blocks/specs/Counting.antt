@@ -5,9 +5,8 @@ use Rattle.aries.specs.declared.block.Kind.{Kind}
 use Rattle.aries.specs.Test.{is_empty}
 use Rattle.aries.specs.Text.{bytes}
 use Rattle.aries.specs.ByLetter.{Letters, has}
-use Rattle.aries.specs.Forms.{Form, form_of, listed, beside_fits, kind_fits}
-use Rattle.words.specs.declared.Summary.{Summary}
-use Rattle.words.specs.Keeping.{measure_by}
+use Rattle.aries.specs.Forms.{Form, form_of, beside_fits, kind_fits}
+use Rattle.words.specs.declared.Line.{Line}
 
 -- how many letters pass a test
 abbrev pub passing : (ℕ → Bool) → List ℕ → ℕ
@@ -24,13 +23,17 @@ one_counted w ls = is_empty ls || leb 1 (present w ls)
 
 -- All that must stand there does, one of those of which one must, and the words besides N and G are as many as the listed
 -- letters among them: where no letter stands twice there are no others.
-unfoldable pub count_fits : Letters → ℕ → Form → Bool
-count_fits w others f =
-    eqb (present w (bytes f.must)) (length (bytes f.must))
-    && (one_counted w (bytes f.one_of) && eqb others (present w (listed f)))
+unfoldable pub counts_fit : Line → List ℕ → List ℕ → List ℕ → Bool
+counts_fit l must one_of may =
+    let w : Letters = l.words.letters in
+    eqb (present w must) (length must)
+    && (one_counted w one_of && eqb l.others (present w must + (present w one_of + present w may)))
+
+abbrev pub form_counts : Line → Form → Bool
+form_counts l f = counts_fit l (bytes f.must) (bytes f.one_of) (bytes f.may)
 
 -- a block of a kind has the letters of that kind, each in its place, where G73 blocks have given X and Y or not
-unfoldable pub is_counted : Given → Letters → Summary → Kind → Bool
-is_counted given w s k =
-    not s.misplaced
-    && (kind_fits given w k && (beside_fits (measure_by s) (form_of k).beside && count_fits w s.others (form_of k)))
+unfoldable pub is_counted : Given → Line → Kind → Bool
+is_counted given l k =
+    not l.misplaced
+    && (kind_fits given l.words.letters k && (beside_fits l.words.measure (form_of k).beside && form_counts l (form_of k)))

@@ -2,11 +2,9 @@ ghost use Rattle.std.specs.Prelude.{◌≡◌};
 ghost use Rattle.aries.specs.ByLetter.{lookup, codes};
 ghost use Rattle.aries.specs.Forms.{plain_kind, kind_of};
 ghost use Rattle.aries.specs.declared.block.Kind.TheVariants.{Unknown};
-ghost use Rattle.words.specs.Keeping.{letters_of, words_by};
 
-use crate::lookup::has;
 use aries::block::Kind;
-use words::Summary;
+use aries::word::Words;
 
 // The kind of a block with a code.
 fn coded_kind(code: u32) -> Kind
@@ -33,37 +31,33 @@ fn coded_kind(code: u32) -> Kind
 }
 
 // The kind of a block without a code.
-fn plain_kind(forms: &[u8; 26], numbers: &[i32; 26]) -> Kind
-    ensures { result ≡ plain_kind (letters_of forms.now numbers.now) }
+fn plain_kind(words: &Words) -> Kind
+    ensures { result ≡ plain_kind words.now.letters }
 {
-    if has(forms, numbers, b'M') {
-        return Kind::LetterM;
+    if words.has(b'M') {
+        Kind::LetterM
+    } else if words.has(b'B') {
+        Kind::LetterB
+    } else if words.has(b'U') {
+        Kind::LetterU
+    } else if words.has(b'V') {
+        Kind::LetterV
+    } else if words.has(b'W') {
+        Kind::LetterW
+    } else if words.has(b'X') | words.has(b'Y') {
+        Kind::Position
+    } else {
+        Kind::Lone
     }
-    if has(forms, numbers, b'B') {
-        return Kind::LetterB;
-    }
-    if has(forms, numbers, b'U') {
-        return Kind::LetterU;
-    }
-    if has(forms, numbers, b'V') {
-        return Kind::LetterV;
-    }
-    if has(forms, numbers, b'W') {
-        return Kind::LetterW;
-    }
-    if has(forms, numbers, b'X') | has(forms, numbers, b'Y') {
-        return Kind::Position;
-    }
-    Kind::Lone
 }
 
 // The kind of a block: by its code, or else by its letters.
-pub fn kind_of(forms: &[u8; 26], numbers: &[i32; 26], summary: Summary) -> Kind
-    ensures { result ≡ kind_of (words_by (letters_of forms.now numbers.now) summary) }
+#[tactic(auto, unfolding(aries::specs::Forms::kind_of))]
+pub fn kind_of(words: &Words) -> Kind
+    ensures { result ≡ kind_of words.now }
 {
-    if summary.coded {
-        coded_kind(summary.code)
-    } else {
-        plain_kind(forms, numbers)
+    match words.code {
+        Some(code) => coded_kind(code),
+        None => plain_kind(words),
     }
 }

@@ -2,37 +2,32 @@
 #![tactic(auto)]
 
 ghost use Rattle.std.specs.Prelude.{◌≡◌};
-ghost use Rattle.blocks.specs.Decoding.{judged_of, letters_left};
-ghost use Rattle.lengths.specs.Sized.{SizedLists};
-ghost use Rattle.words.specs.Keeping.{letters_of};
+ghost use Rattle.blocks.specs.Decoding.{judged_of, line_left};
+ghost use Rattle.lengths.specs.Sized.{Sized};
 
-use aries::block::Judged;
+use aries::block::{Kind, Measure};
 use aries::reader::Reader;
-use aries::refusal;
-use words::Summary;
+use aries::refusal::Refusal;
+use words::Line;
 
 pub mod kind; // codes
 pub mod letters; // refusal 5
-pub mod lookup; // what is told of a word
 pub mod numbers; // refusal 6
 pub mod request; // what a block asks for
 
 // The kind of a block and its G90 or G91, or refusal 5 or 6. Past 5 its lengths and angles are put into hundredths.
-pub fn judge(reader: Reader, forms: &[u8; 26], numbers: &mut [i32; 26], summary: Summary) -> Judged
-    requires { SizedLists forms.now numbers.old }
-    ensures value { result ≡ judged_of reader (letters_of forms.now numbers.old) summary }
-    ensures numbers_after { letters_of forms.now numbers.new ≡ letters_left reader (letters_of forms.now numbers.old) summary }
+pub fn judge(reader: Reader, line: &mut Line) -> Result<(Kind, Option<Measure>), Refusal>
+    requires { Sized line.old.words.letters }
+    ensures value { result ≡ judged_of reader line.old }
+    ensures left { line.new ≡ line_left reader line.old }
 {
-    let kind = kind::kind_of(forms, numbers, summary);
-    let given = reader.given;
-    if !letters::is_listed(given, forms, numbers, summary, kind) {
-        return Judged::Refused(refusal::NOT_LISTED);
+    let kind = kind::kind_of(&line.words);
+    if !letters::is_listed(reader.given, line, kind) {
+        return Err(Refusal::NotListed);
     }
-    let setting = reader.setting;
-    let near = lengths::to_hundredths(setting, forms, numbers, kind);
-    if !(near & numbers::is_ranged(forms, numbers, kind)) {
-        return Judged::Refused(refusal::WRONG_NUMBER);
+    let near = lengths::to_hundredths(reader.setting, &mut line.words, kind);
+    if !(near & numbers::is_ranged(&line.words, kind)) {
+        return Err(Refusal::WrongNumber);
     }
-    let measure = request::measure_of(summary);
-    Judged::Of(kind, measure)
+    Ok((kind, line.words.measure))
 }

@@ -1,3 +1,5 @@
+pub mod Options
+pub mod Thence
 pub mod Lines
 pub mod Rest
 pub mod Called

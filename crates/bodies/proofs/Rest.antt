@@ -1,105 +1,123 @@
 -- The rest of a body after a stretch: it lies behind the place where the stretch began.
-use mathlib.Core.Path.{◌≡◌, refl, sym, ap, subst, ◌∙◌}
-use mathlib.Core.Bool.{true, false, true≢false}
-use mathlib.Core.List.{List, append-nil}
+use Rattle.std.specs.Prelude.{Err, None, Ok, Option, Some}
+use mathlib.Core.Path.{◌≡◌, refl, ap}
+use mathlib.Core.List.{List}
 use Prim.Native.Nat.{ℕ, suc, ◌-◌, ◌<◌}
 use native.Mathlib.Omega.{arith}
 use lib.ListN.{length, drop}
 use Rattle.aries.specs.declared.block.Call.{Call}
+use Rattle.aries.specs.declared.block.Outside.{Outside}
+use Rattle.aries.specs.declared.location.Location.{Location}
+use Rattle.aries.specs.declared.refusal.Refusal.TheVariants.{OutOfPlace}
+use Rattle.aries.specs.declared.refusal.Refused.{Refused}
 use Rattle.aries.specs.declared.state.Frame.{Frame}
 use Rattle.aries.specs.declared.state.Progress.{Progress}
-use Rattle.aries.specs.declared.state.Status.TheVariants.{Passed}
-use Rattle.aries.specs.Outcome.{Out, done, refused}
-use Rattle.aries.specs.declared.entry.Entry.{Entry}
-use Rattle.aries.specs.Entries.{Made, no_entry, and_then}
-use Rattle.aries.specs.Judging.{Judging, limits}
-use Rattle.aries.specs.Macros.{Calls, run_lines}
+use Rattle.aries.specs.Outcome.{Out}
+use Rattle.aries.specs.Entries.{Made}
+use Rattle.aries.specs.Judging.{limits}
+use Rattle.aries.specs.Macros.{Calls, carry_call, run_lines}
 use Rattle.aries.specs.Runs.{Lent, entries_made, Ran}
 use Rattle.aries.specs.Steady.{GivenNear}
 use Rattle.aries.specs.Text.{lines}
-use Rattle.aries.proofs.Given.{left_near}
-use Rattle.aries.proofs.Runs.{Leads, leads-start, leads_as, leads_on, passed_as}
+use Rattle.aries.proofs.Runs.{Leads, leads-start, leads_as, leads_on, leads_out, leads_end, ran-refused}
 use Rattle.stretches.specs.declared.Sequel.{Sequel}
 use Rattle.stretches.specs.declared.Stretch.{Stretch}
-use Rattle.stretches.specs.Stretches.{Stretched, stretch, is_end, LinesFit, Stretches}
-use Rattle.stretches.proofs.Sequels.{SequelBehind, stretch-behind, stretch-passes}
+use Rattle.stretches.specs.Stretches.{stretch, LinesFit, Stretches}
+use Rattle.stretches.proofs.Sequels.{SequelBehind, left_made, stretch-behind}
 use Rattle.stretches.proofs.Nearness.{SequelNear, StretchNear, stretch-near}
 use Rattle.bodies.specs.Rest.{rest, RestFits}
-use Rattle.bodies.proofs.Lines.{lines_stretched}
+use Rattle.bodies.proofs.Lines.{followed, lines_stretched}
+use Rattle.bodies.proofs.Thence.{stretch_refused, leads_behind}
 
 -- its line numbers fit, where those of the stretch did, and a call of it is short
-pub rest-fits : (t : List ℕ) (at line : ℕ) (s : Sequel) → LinesFit line at t → SequelBehind t at line s → SequelNear s → RestFits t s
-rest-fits t at line Sequel.End h b n = tt
-rest-fits t at line (Sequel.Call x end place) h b n = (omega (arith, b.after, b.inside, b.paced), n)
-rest-fits t at line (Sequel.Outside o end place) h b n = tt
+rest-fits : (t : List ℕ) (from : Location) (s : Option Sequel) → LinesFit from t → SequelBehind t from s → SequelNear s → RestFits t s
+rest-fits t from None h b n = tt
+rest-fits t from (Some (Sequel.Call x end)) h b n = (omega (arith, b.after, b.inside, b.paced), n)
+rest-fits t from (Some (Sequel.Outside o end)) h b n = tt
 
 -- how much of the text it may have
-pub rest_size : List ℕ → Sequel → ℕ
-rest_size t Sequel.End = 0
-rest_size t (Sequel.Call x end line) = suc (length t - end)
-rest_size t (Sequel.Outside o end line) = 0
+abbrev pub rest_size : List ℕ → Option Sequel → ℕ
+rest_size t None = 0
+rest_size t (Some (Sequel.Call x end)) = suc (length t - end.offset)
+rest_size t (Some (Sequel.Outside o end)) = 0
 
-pub rest-less : (t : List ℕ) (at line : ℕ) (s : Sequel) → SequelBehind t at line s → rest_size t s < suc (length t - at)
-unfolding rest_size
-rest-less t at line Sequel.End b = omega arith
-rest-less t at line (Sequel.Call x end place) b = omega (arith, b.after, b.inside)
-rest-less t at line (Sequel.Outside o end place) b = omega arith
-
-pub size-call : (t : List ℕ) (x : Call) (end line : ℕ) → rest_size t (Sequel.Call x end line) ≡ suc (length t - end)
-unfolding rest_size
-size-call t x end line = refl
+rest-less : (t : List ℕ) (from : Location) (s : Option Sequel) → SequelBehind t from s → rest_size t s < suc (length t - from.offset)
+rest-less t from None b = omega arith
+rest-less t from (Some (Sequel.Call x end)) b = omega (arith, b.after, b.inside)
+rest-less t from (Some (Sequel.Outside o end)) b = omega arith
 
 -- ---- A stretch, and what follows it
 
-is_end_lem : (s : Sequel) → is_end s ≡ true → s ≡ Sequel.End
-is_end_lem Sequel.End e = refl
-is_end_lem (Sequel.Call x end line) e = absurd (true≢false (sym e))
-is_end_lem (Sequel.Outside o end line) e = absurd (true≢false (sym e))
-
-then_no_entry : (out : Out (Made Progress)) → and_then out no_entry ≡ out
-then_no_entry (refused number line) = refl
-then_no_entry (done m) = ap (λ (es : List Entry). done (record { entries = es; after = m.after })) (append-nil m.entries)
-
-module _
-    (c : Calls) (t : List ℕ) (at line : ℕ) {r : Stretch} {f : Frame} {before after : Lent} {g : Progress}
-    (st : Stretches r f before after g (λ j. stretch j f at line (lines (drop at t)))) where
-  abbrev judging : Judging
-  judging = limits f.job
-
+module _ (c : Calls) (t : List ℕ) (from : Location) (f : Frame) (g : Progress) where
   abbrev whole : Out (Made Progress)
-  whole = run_lines judging c f line (lines (drop at t)) g
+  whole = run_lines (limits f.job) c f from.line (lines (drop from.offset t)) g
 
-  abbrev made : Stretched
-  made = stretch judging f at line (lines (drop at t)) g
+  abbrev made : Out (Made Stretch)
+  made = stretch (limits f.job) f from (lines (drop from.offset t)) g
 
-  -- nothing follows: it was all
-  pub lines-over : is_end r.sequel ≡ true → Ran entries_made f.job r.outcome.status r.outcome.progress before after g.entries whole
-  lines-over e =
-      subst (Ran entries_made f.job r.outcome.status r.outcome.progress before after g.entries)
-      (sym (then_no_entry made.made) ∙ ap (λ (s : Sequel). and_then made.made (rest judging c f t s)) (sym (is_end_lem r.sequel e) ∙ st.same-sequel) ∙ sym (lines_stretched judging c f t at line g))
-      st.ran
+  -- a refusal ends the body
+  pub lines_refused :
+      {e : Refused} {before after left : Lent} → Stretches (Err e) f before after g (λ j. stretch j f from (lines (drop from.offset t)))
+      → Ran entries_made f.job (Err e) before left g.entries whole
+  lines_refused st = rw (lines_stretched (limits f.job) c f t from g) (stretch_refused made (followed (limits f.job) c f t) st)
 
-  -- something follows: whoever carries that out has carried out all
-  pub lines_left : is_end r.sequel ≡ false → Leads entries_made f.job after r.outcome.progress.entries (rest judging c f t r.sequel r.outcome.progress) before g.entries whole
-  lines_left e =
-      leads_as (ap (λ (s : Sequel). rest judging c f t s r.outcome.progress) (sym st.same-sequel))
-      (leads_on made.made (rest judging c f t made.sequel)
-      (passed_as (stretch-passes judging f (lines (drop at t)) at line g st.ran.same_status (sym (ap is_end st.same-sequel) ∙ e)) st.ran)
-      (leads_as (lines_stretched judging c f t at line g) (leads-start refl)))
+  -- and past a stretch that passed, whoever carries out what follows has carried out all
+  pub lines_left :
+      {s : Stretch} {before after : Lent} → Stretches (Ok s) f before after g (λ j. stretch j f from (lines (drop from.offset t)))
+      → Leads entries_made f.job after s.progress.entries (rest (limits f.job) c f t s.sequel s.progress) before g.entries whole
+  lines_left st =
+      leads_behind made (followed (limits f.job) c f t) st
+      (leads_as (lines_stretched (limits f.job) c f t from g) (leads-start refl))
+
+module _ (t : List ℕ) (from : Location) (f : Frame) (g : Progress) {s : Stretch} {before after : Lent} (st : Stretches (Ok s) f before after g (λ j. stretch j f from (lines (drop from.offset t)))) where
+  behind_it : SequelBehind t from s.sequel
+  behind_it = left_made _ st.same (stretch-behind t (limits f.job) f from g)
+
+  -- less of the text is left
+  pub left_less : rest_size t s.sequel < suc (length t - from.offset)
+  left_less = rest-less t from s.sequel behind_it
 
   module _ (given : GivenNear g.state) where
-    is_near : StretchNear made
-    is_near = stretch-near judging f (lines (drop at t)) at line g given
+    is_near : StretchNear s
+    is_near = left_made _ st.same (stretch-near (limits f.job) f (lines (drop from.offset t)) from g given)
 
-    pub left_fits : LinesFit line at t → RestFits t r.sequel
-    left_fits h =
-        rest-fits t at line r.sequel h (subst (SequelBehind t at line) (sym st.same-sequel) (stretch-behind t judging f at line g))
-        (subst SequelNear (sym st.same-sequel) is_near.sequel)
+    pub left_given : GivenNear s.progress.state
+    left_given = is_near.given
 
-    -- the letters given, where all went well
-    pub left_given : r.outcome.status ≡ Passed → GivenNear r.outcome.progress.state
-    left_given e = left_near made.made st.ran e is_near.made
+    pub left_fits : LinesFit from t → RestFits t s.sequel
+    left_fits h = rest-fits t from s.sequel h behind_it is_near.sequel
 
-    -- so it does where something follows
-    pub ended_given : is_end r.sequel ≡ false → GivenNear r.outcome.progress.state
-    ended_given e = left_given (stretch-passes judging f (lines (drop at t)) at line g st.ran.same_status (sym (ap is_end st.same-sequel) ∙ e))
+-- ---- A turn of the block runner: whoever carries out what follows this stretch has carried out the whole. So:
+
+module _
+    (f : Frame) (calls : Calls) (t : List ℕ) (now : Stretch) {l l₀ : Lent} {k₀ : ℕ} {all : Out (Made Progress)}
+    (lead : Leads entries_made f.job l now.progress.entries (rest (limits f.job) calls f t now.sequel now.progress) l₀ k₀ all) where
+  lead_by : (s : Option Sequel) → now.sequel ≡ s → Leads entries_made f.job l now.progress.entries (rest (limits f.job) calls f t s now.progress) l₀ k₀ all
+  lead_by s e = leads_as (ap (λ (s : Option Sequel). rest (limits f.job) calls f t s now.progress) e) lead
+
+  -- at the end of the body all is done,
+  pub body_over : now.sequel ≡ None → Ran entries_made f.job (Ok now.progress) l₀ l k₀ all
+  body_over e = leads_end (lead_by None e)
+
+  -- a block that is out of place ends it,
+  pub out_of_place :
+      (o : Outside) (end : Location) {after : Lent} → now.sequel ≡ Some (Sequel.Outside o end)
+      → Ran entries_made f.job (Err (record { refusal = OutOfPlace; line = end.line })) l₀ after k₀ all
+  out_of_place o end e = lead_by (Some (Sequel.Outside o end)) e _ _ ran-refused
+
+  module _ (block : Call) (end : Location) (e : now.sequel ≡ Some (Sequel.Call block end)) where
+    abbrev behind_call : Progress → Out (Made Progress)
+    behind_call = run_lines (limits f.job) calls f end.line (lines (drop end.offset t))
+
+    -- and so does a call that is refused;
+    pub call_refused :
+        {after : Lent} {r : Refused} → Ran entries_made f.job (Err r) l after now.progress.entries (carry_call calls f end.line block now.progress)
+        → Ran entries_made f.job (Err r) l₀ after k₀ all
+    call_refused ran = leads_out _ behind_call ran (lead_by (Some (Sequel.Call block end)) e)
+
+    -- past one that is not, the lines behind it are left.
+    pub call_passed :
+        {mid : Lent} {left : Progress}
+        → Ran entries_made f.job (Ok left) l mid now.progress.entries (carry_call calls f end.line block now.progress)
+        → Leads entries_made f.job mid left.entries (run_lines (limits f.job) calls f end.line (lines (drop end.offset t)) left) l₀ k₀ all
+    call_passed ran = leads_on _ behind_call ran (lead_by (Some (Sequel.Call block end)) e)

@@ -5,7 +5,6 @@ use Rattle.aries.specs.declared.block.Call.{Call}
 use Rattle.aries.specs.declared.block.Call.TheVariants.{Plain, Mirrored}
 use Rattle.aries.specs.declared.point.Point.{Point}
 use Rattle.aries.specs.declared.state.Frame.{Frame}
-use Rattle.aries.specs.declared.state.Outcome.{Outcome}
 use Rattle.aries.specs.declared.state.Progress.{Progress}
 use Rattle.aries.specs.Mirrors.{mirrored}
 use Rattle.aries.specs.Moves.{giving, standing_at, with_state}
@@ -29,6 +28,3 @@ frame_by (Mirrored m) spans f = mirrored m.way spans f
 abbrev pub left_by : Call → Point → Progress → Progress
 left_by (Plain n) origin g = g
 left_by (Mirrored m) origin g = with_state g (standing_at g.state origin)
-
-abbrev pub outcome_by : Call → Point → Outcome → Outcome
-outcome_by c origin r = record { status = r.status; progress = left_by c origin r.progress }

@@ -1,11 +1,11 @@
 ghost use Rattle.std.specs.Prelude.{◌≡◌, true};
 ghost use Rattle.aries.specs.Judging.{near};
 ghost use Rattle.aries.specs.Steady.{Steady};
-ghost use Rattle.bodies.specs.Calling.{part_of, begun_by, frame_by, outcome_by};
+ghost use Rattle.bodies.specs.Calling.{part_of, begun_by, frame_by, left_by};
 
 use aries::block::Call;
 use aries::point::Point;
-use aries::state::{Frame, Outcome, Progress};
+use aries::state::{Frame, Progress};
 
 // The macro that a block calls.
 pub fn part_of(block: Call) -> u8
@@ -24,9 +24,7 @@ pub fn begun_by(block: Call, origin: Point, progress: Progress) -> Progress
     match block {
         Call::Plain(_) => progress,
         Call::Mirrored(mirroring) => {
-            let axes = mirroring.axes;
-            let state = progress.state;
-            let given = state.giving(axes);
+            let given = progress.state.giving(mirroring.axes);
             progress.with_state(given.standing_at(origin))
         }
     }
@@ -43,20 +41,12 @@ pub fn frame_by(block: Call, frame: Frame, spans: Point) -> Frame
     }
 }
 
-// What is left of its outcome: by W as it is, by G73 at the origin.
-pub fn outcome_by(block: Call, origin: Point, outcome: Outcome) -> Outcome
-    ensures { result ≡ outcome_by block origin outcome }
+// What is left of the progress that it ends with: by W as it is, by G73 at the origin.
+pub fn left_by(block: Call, origin: Point, progress: Progress) -> Progress
+    ensures { result ≡ left_by block origin progress }
 {
     match block {
-        Call::Plain(_) => outcome,
-        Call::Mirrored(_) => {
-            let status = outcome.status;
-            let progress = outcome.progress;
-            let state = progress.state;
-            Outcome {
-                status,
-                progress: progress.with_state(state.standing_at(origin)),
-            }
-        }
+        Call::Plain(_) => progress,
+        Call::Mirrored(_) => progress.with_state(progress.state.standing_at(origin)),
     }
 }

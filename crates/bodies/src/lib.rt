@@ -1,20 +1,21 @@
 // Bodies: the blocks of a body, and the calls among them.
 #![tactic(auto)]
 
-ghost use Rattle.std.specs.Prelude.{◌≡◌, cond, ltb, drop};
-ghost use Rattle.aries.specs.Macros.{bodies_of, call, carry_call, run_lines};
+ghost use Rattle.std.specs.Prelude.{◌≡◌, length, drop};
+ghost use Rattle.aries.specs.Macros.{part, bodies_of, call, carry_call, run_lines};
 ghost use Rattle.aries.specs.Runs.{lent_both, Carried};
 ghost use Rattle.aries.specs.Steady.{CallNear, GivenNear, Steady};
 ghost use Rattle.aries.specs.Text.{lines};
 ghost use Rattle.stretches.specs.Stretches.{LinesFit};
 ghost use Rattle.bodies.specs.Rest.{rest, RestFits};
 
-use crate::calling::{begun_by, frame_by, outcome_by, part_of};
+use crate::calling::{begun_by, frame_by, left_by, part_of};
 use aries::block::Call;
-use aries::macros::{Found, Macros, find_in};
-use aries::refusal;
-use aries::state::{Frame, Outcome, Progress, Status};
-use stretches::{Sequel, look_ahead, run_stretch};
+use aries::location::Location;
+use aries::macros::{Macros, StoredBody};
+use aries::refusal::{Refusal, Refused};
+use aries::state::{Frame, Progress};
+use stretches::{Sequel, Stretch, look_ahead, run_stretch};
 use tallies::FIGURES;
 
 mod calling; // a block that calls a macro: what its body begins with, and what is left
@@ -25,18 +26,13 @@ pub const MOST_CALLS: u8 = 4;
 // The calls that a body may still open when its own is the only one.
 pub const FURTHER_CALLS: u8 = 3;
 
-// A place of a body between two lines, and the number of the line there.
-#[derive(Clone, Copy)]
-pub struct Opening {
-    pub at: usize,
-    pub line: u64,
-}
-
-// A place, or the limit where it lies past that.
-pub fn clip(place: usize, limit: usize) -> usize
-    ensures { result ≡ cond (ltb limit place) limit place }
+// The bytes of a stored body, a part of the text.
+pub fn bytes_of<'a>(text: &'a [u8], body: StoredBody) -> &'a [u8]
+    ensures { result.now ≡ part text.now body.start body.end }
 {
-    if limit < place { limit } else { place }
+    let end = (body.end as usize).min(text.len());
+    let start = (body.start as usize).min(end);
+    &text[start..end]
 }
 
 // The blocks of a body from a place on, up to the first refusal, with so many calls left to open: direct blocks are carried
@@ -47,36 +43,19 @@ pub fn run_blocks(
     tally: &mut [u64; FIGURES],
     text: &[u8],
     body: &[u8],
-    from: Opening,
-    macros: Macros,
+    from: Location,
+    macros: &Macros,
     frame: Frame,
     progress: Progress,
-) -> Outcome
-    requires lines_fit { LinesFit from.line from.at body.now }
+) -> Result<Progress, Refused>
+    requires lines_fit { LinesFit from body.now }
     requires steady { Steady depth frame }
     requires given_near { GivenNear progress.state }
-    ensures { Carried result frame (lent_both list.old tally.old) (lent_both list.new tally.new) progress (λ j. run_lines j (call j (bodies_of text.now macros) depth) frame from.line (lines (drop from.at body.now))) }
+    ensures { Carried result frame (lent_both list.old tally.old) (lent_both list.new tally.new) progress (λ j. run_lines j (call j (bodies_of text.now macros.now) depth) frame from.line (lines (drop from.offset body.now))) }
 {
-    let at = from.at;
-    let line = from.line;
-    let given = progress.state.given;
-    let start = look_ahead(frame.reader(given), body, at, line);
-    let stretch = run_stretch(list, tally, body, at, line, start, frame, progress);
-    let sequel = stretch.sequel;
-    if sequel.is_end() {
-        return stretch.outcome;
-    }
-    run_rest(
-        depth,
-        list,
-        tally,
-        text,
-        body,
-        sequel,
-        macros,
-        frame,
-        stretch.outcome.progress,
-    )
+    let start = look_ahead(frame.reader(progress.state.given), body, from);
+    let stretch = run_stretch(list, tally, body, from, start, frame, progress)?;
+    finish_body(depth, list, tally, text, body, stretch, macros, frame)
 }
 
 // The block runner: what follows a stretch in a body, from the block that it ended at on. A call goes to the body runner,
@@ -88,54 +67,54 @@ pub fn run_rest(
     tally: &mut [u64; FIGURES],
     text: &[u8],
     body: &[u8],
-    from: Sequel,
-    macros: Macros,
+    from: Stretch,
+    macros: &Macros,
     frame: Frame,
-    progress: Progress,
-) -> Outcome
-    requires rest_fits { RestFits body.now from }
+) -> Result<Progress, Refused>
+    requires rest_fits { RestFits body.now from.sequel }
     requires steady { Steady depth frame }
-    requires given_near { GivenNear progress.state }
-    ensures { Carried result frame (lent_both list.old tally.old) (lent_both list.new tally.new) progress (λ j. rest j (call j (bodies_of text.now macros) depth) frame body.now from) }
+    requires given_near { GivenNear from.progress.state }
+    ensures { Carried result frame (lent_both list.old tally.old) (lent_both list.new tally.new) from.progress (λ j. rest j (call j (bodies_of text.now macros.now) depth) frame body.now from.sequel) }
 {
-    let mut now = progress;
-    let mut sequel = from;
-    loop {
-        match sequel {
-            Sequel::End => {
-                return Outcome::passed(now);
-            }
-            Sequel::Outside(_, _, place) => {
-                return Outcome::refused(refusal::OUT_OF_PLACE, place, now);
-            }
-            Sequel::Call(block, end, place) => {
-                let outcome = run_body(depth, list, tally, text, block, place, macros, frame, now);
-                let ended = outcome.status;
-                if let Status::Refused(_, _) = ended {
-                    return outcome;
-                }
-                let given = outcome.progress.state.given;
-                let next = look_ahead(frame.reader(given), body, end, place);
-                let stretch = run_stretch(
-                    list,
-                    tally,
-                    body,
-                    end,
-                    place,
-                    next,
-                    frame,
-                    outcome.progress,
-                );
-                let ran = stretch.outcome;
-                let status = ran.status;
-                now = stretch.outcome.progress;
-                sequel = stretch.sequel;
-                if let Status::Refused(number, line) = status {
-                    return Outcome::refused(number, line, now);
-                }
-            }
-        }
+    let mut stretch = from;
+    while let Some(sequel) = stretch.sequel {
+        let (block, end) = match sequel {
+            Sequel::Call(block, end) => (block, end),
+            Sequel::Outside(_, end) => return Err(Refusal::OutOfPlace.at(end.line)),
+        };
+        let now = stretch.progress;
+        let left = run_body(
+            depth, list, tally, text, block, end.line, macros, frame, now,
+        )?;
+        let next = look_ahead(frame.reader(left.state.given), body, end);
+        stretch = run_stretch(list, tally, body, end, next, frame, left)?;
     }
+    Ok(stretch.progress)
+}
+
+// A body past its first stretch of direct blocks. Most bodies are at their end there, and the block runner is not called: tried with
+// that call each time, a copy of a part of one block takes half as long again.
+#[inline(always)]
+#[cycle(run_body_run_rest)]
+pub fn finish_body(
+    depth: u8,
+    list: &mut [i32],
+    tally: &mut [u64; FIGURES],
+    text: &[u8],
+    body: &[u8],
+    from: Stretch,
+    macros: &Macros,
+    frame: Frame,
+) -> Result<Progress, Refused>
+    requires rest_fits { RestFits body.now from.sequel }
+    requires steady { Steady depth frame }
+    requires given_near { GivenNear from.progress.state }
+    ensures { Carried result frame (lent_both list.old tally.old) (lent_both list.new tally.new) from.progress (λ j. rest j (call j (bodies_of text.now macros.now) depth) frame body.now from.sequel) }
+{
+    if from.sequel.is_none() {
+        return Ok(from.progress);
+    }
+    run_rest(depth, list, tally, text, body, from, macros, frame)
 }
 
 // The body runner: a block that calls a macro in a line, with so many calls left to open, this one among them. The body is a part
@@ -148,48 +127,31 @@ pub fn run_body(
     text: &[u8],
     block: Call,
     line: u64,
-    macros: Macros,
+    macros: &Macros,
     frame: Frame,
     progress: Progress,
-) -> Outcome
+) -> Result<Progress, Refused>
     requires steady { Steady depth frame }
     requires given_near { GivenNear progress.state }
     requires call_near { CallNear block }
-    ensures { Carried result frame (lent_both list.old tally.old) (lent_both list.new tally.new) progress (λ j. carry_call (call j (bodies_of text.now macros) depth) frame line block) }
+    ensures { Carried result frame (lent_both list.old tally.old) (lent_both list.new tally.new) progress (λ j. carry_call (call j (bodies_of text.now macros.now) depth) frame line block) }
 {
-    let number = part_of(block);
-    let found = find_in(&macros.start, &macros.end, &macros.line, number);
-    let Found::Body(begin, end, first) = found else {
-        return Outcome::refused(refusal::NOT_STORED, line, progress);
-    };
+    let stored = macros
+        .find(part_of(block))
+        .ok_or(Refusal::NotStored.at(line))?;
     if depth == 0 {
-        return Outcome::refused(refusal::TOO_DEEP, line, progress);
+        return Err(Refusal::TooDeep.at(line));
     }
-    let to = clip(end, text.len());
-    let from = clip(begin, to);
-    let body = &text[from..to];
-    let number = first as u64;
+    let body = bytes_of(text, stored);
+    let first = Location {
+        offset: 0,
+        line: stored.line as u64,
+    };
     let origin = frame.origin;
     let begun = begun_by(block, origin, progress);
-    let spans = begun.state.spans;
-    let inner = frame_by(block, frame, spans);
-    let given = begun.state.given;
-    let start = look_ahead(inner.reader(given), body, 0, number);
-    let stretch = run_stretch(list, tally, body, 0, number, start, inner, begun);
-    let sequel = stretch.sequel;
-    if sequel.is_end() {
-        return outcome_by(block, origin, stretch.outcome);
-    }
-    let outcome = run_rest(
-        depth - 1,
-        list,
-        tally,
-        text,
-        body,
-        sequel,
-        macros,
-        inner,
-        stretch.outcome.progress,
-    );
-    outcome_by(block, origin, outcome)
+    let inner = frame_by(block, frame, begun.state.spans);
+    let start = look_ahead(inner.reader(begun.state.given), body, first);
+    let stretch = run_stretch(list, tally, body, first, start, inner, begun)?;
+    let left = finish_body(depth - 1, list, tally, text, body, stretch, macros, inner)?;
+    Ok(left_by(block, origin, left))
 }

@@ -3,7 +3,7 @@
 
 ghost use Rattle.std.specs.Prelude.{◌≡◌, true};
 ghost use Rattle.aries.specs.Judging.{near};
-ghost use Rattle.aries.specs.Layouts.{part_of, copy, copy_part};
+ghost use Rattle.aries.specs.Layouts.{copy, copy_part};
 ghost use Rattle.aries.specs.Macros.{bodies_of};
 ghost use Rattle.aries.specs.WidePoints.{point_of};
 ghost use Rattle.aries.specs.Reader.{reader_of};
@@ -12,198 +12,102 @@ ghost use Rattle.aries.specs.Setup.{ordinary_frame};
 ghost use Rattle.aries.specs.Steady.{GivenNear, Steady};
 ghost use Rattle.stretches.specs.Lookahead.{ahead};
 ghost use Rattle.stretches.specs.Stretches.{LinesFit};
-ghost use Rattle.copies.specs.Copying.{blank_part, body_of, all_copies};
+ghost use Rattle.copies.specs.Copying.{blank_part, part_by, all_copies};
 
-use aries::block::{Copies, Layout};
-use aries::macros::{Found, Macros};
-use aries::point::{Located, WidePoint};
-use aries::refusal;
-use aries::setup::{Setup, Sheet};
-use aries::state::{Frame, Outcome, Progress, State, Status};
+use aries::block::Copies;
+use aries::location::Location;
+use aries::macros::Macros;
+use aries::point::WidePoint;
+use aries::refusal::{Refusal, Refused};
+use aries::setup::Setup;
+use aries::state::{Frame, Progress, State};
 use lanes::Cursor;
+use placing::Places;
 use stretches::{Ahead, look_ahead, run_stretch};
 use tallies::FIGURES;
 
 // Copies a part without a block: all places are judged, and the state is that of the last copy.
-fn copy_blank(
-    frame: Frame,
-    line: u64,
-    layout: Layout,
-    copies: Copies,
-    progress: Progress,
-) -> Outcome
-    ensures { (l : Lent) → Carried result frame l l progress (λ j. all_copies j blank_part frame line layout copies) }
+fn copy_blank(line: u64, places: Places, progress: Progress) -> Result<Progress, Refused>
+    ensures { (f : Frame) (l : Lent) → Carried result f l l progress (λ j. all_copies j blank_part f line places) }
 {
-    let last = placing::last_copy(frame.origin, layout, copies);
-    let Located::At(point) = last else {
-        return Outcome::refused(refusal::TOO_FAR, line, progress);
-    };
-    let found = progress.state;
-    Outcome::passed(progress.with_state(found.standing_at(point)))
+    let last = places.last_copy().ok_or(Refusal::TooFar.at(line))?;
+    Ok(progress.with_state(progress.state.standing_at(last)))
 }
 
-// One copy, after so many blocks and entries: its place is judged, and then the part is carried out there with the state found.
-// The macro store is handed on only where a stretch of direct blocks is not all.
-fn copy_at(
-    list: &mut [i32],
-    tally: &mut [u64; FIGURES],
-    text: &[u8],
-    body: &[u8],
-    first: u64,
-    start: Ahead,
-    macros: Macros,
-    frame: Frame,
-    line: u64,
-    found: State,
-    place: WidePoint,
-    blocks: u32,
-    entries: usize,
-) -> Outcome
-    requires lines_fit { (LinesFit first 0 body.now) × (start ≡ ahead (reader_of frame found) body.now 0 first) }
-    requires steady { (Steady 3 frame) × (GivenNear found) }
-    ensures { Carried result frame (lent_both list.old tally.old) (lent_both list.new tally.new) (record { state = found; blocks = blocks; entries = entries }) (λ j. copy j (part_of j (bodies_of text.now macros) (body_of first body.now)) frame line found (point_of place)) }
-{
-    let located = place.located();
-    let Located::At(point) = located else {
-        return Outcome::refused(
-            refusal::TOO_FAR,
-            line,
-            Progress {
-                state: found,
-                blocks,
-                entries,
-            },
-        );
-    };
-    let here = frame.at(point);
-    let begun = Progress {
-        state: found.standing_at(point),
-        blocks,
-        entries,
-    };
-    let stretch = run_stretch(list, tally, body, 0, first, start, here, begun);
-    let sequel = stretch.sequel;
-    if sequel.is_end() {
-        return stretch.outcome;
+// A part ready to be copied: the text and the bodies that its calls are looked up in, its own body and the first line of
+// that, and its first block, decoded once for all copies.
+#[derive(Clone, Copy)]
+struct ReadyPart<'a> {
+    text: &'a [u8],
+    macros: &'a Macros,
+    body: &'a [u8],
+    first: Location,
+    start: Option<Ahead>,
+}
+
+impl ReadyPart<'_> {
+    // One copy, after those that have left a progress: its place is judged, and then the part is carried out there with the
+    // state found and the counts so far.
+    fn copy_at(
+        &self,
+        list: &mut [i32],
+        tally: &mut [u64; FIGURES],
+        frame: Frame,
+        line: u64,
+        found: State,
+        place: WidePoint,
+        before: Progress,
+    ) -> Result<Progress, Refused>
+        requires lines_fit { LinesFit self.now.first self.now.body.now }
+        requires start_value { self.now.start ≡ ahead (reader_of frame found) self.now.body.now self.now.first }
+        requires steady { Steady 3 frame }
+        requires given_near { GivenNear found }
+        ensures { Carried result frame (lent_both list.old tally.old) (lent_both list.new tally.new) before (λ j. copy j (part_by j self.now) frame line found (point_of place)) }
+    {
+        let point = place.located().ok_or(Refusal::TooFar.at(line))?;
+        let here = frame.at(point);
+        let begun = before.with_state(found.standing_at(point));
+        let stretch = run_stretch(list, tally, self.body, self.first, self.start, here, begun)?;
+        bodies::finish_body(
+            bodies::FURTHER_CALLS,
+            list,
+            tally,
+            self.text,
+            self.body,
+            stretch,
+            self.macros,
+            here,
+        )
     }
-    bodies::run_rest(
-        bodies::FURTHER_CALLS,
-        list,
-        tally,
-        text,
-        body,
-        sequel,
-        macros,
-        here,
-        stretch.outcome.progress,
-    )
-}
 
-// The copy after those that have left a progress: it begins with the state that was saved before them, and goes on from their
-// counts.
-fn copy_next(
-    list: &mut [i32],
-    tally: &mut [u64; FIGURES],
-    text: &[u8],
-    body: &[u8],
-    first: u64,
-    start: Ahead,
-    macros: Macros,
-    frame: Frame,
-    line: u64,
-    saved: State,
-    place: WidePoint,
-    before: Progress,
-) -> Outcome
-    requires lines_fit { (LinesFit first 0 body.now) × (start ≡ ahead (reader_of frame saved) body.now 0 first) }
-    requires steady { (Steady 3 frame) × (GivenNear saved) }
-    ensures { Carried result frame (lent_both list.old tally.old) (lent_both list.new tally.new) before (λ j. copy j (part_of j (bodies_of text.now macros) (body_of first body.now)) frame line saved (point_of place)) }
-{
-    copy_at(
-        list,
-        tally,
-        text,
-        body,
-        first,
-        start,
-        macros,
-        frame,
-        line,
-        saved,
-        place,
-        before.blocks,
-        before.entries,
-    )
-}
-
-// Copies a part, place after place up to the first refusal. Its first block has been decoded already.
-fn copy_body(
-    list: &mut [i32],
-    tally: &mut [u64; FIGURES],
-    text: &[u8],
-    body: &[u8],
-    first: u64,
-    start: Ahead,
-    macros: Macros,
-    frame: Frame,
-    line: u64,
-    layout: Layout,
-    copies: Copies,
-    progress: Progress,
-) -> Outcome
-    requires lines_fit { (LinesFit first 0 body.now) × (start ≡ ahead (reader_of frame progress.state) body.now 0 first) }
-    requires steady { (Steady 3 frame) × (GivenNear progress.state) }
-    ensures { Carried result frame (lent_both list.old tally.old) (lent_both list.new tally.new) progress (λ j. all_copies j (part_of j (bodies_of text.now macros) (body_of first body.now)) frame line layout copies) }
-{
-    let origin = frame.origin;
-    let found = progress.state;
-    let last = placing::lane_end(layout, copies);
-    let count = placing::copy_count(layout);
-    let mut now = progress;
-    let mut cursor = Cursor::first();
-    let mut m = 0;
-    while m < count {
-        let place = placing::copy_place(origin, layout, copies, cursor);
-        let outcome = copy_next(
-            list, tally, text, body, first, start, macros, frame, line, found, place, now,
-        );
-        let status = outcome.status;
-        if let Status::Refused(_, _) = status {
-            return outcome;
+    // All copies, place after place up to the first refusal. Each begins with the state that the first one found.
+    fn copy_over(
+        &self,
+        list: &mut [i32],
+        tally: &mut [u64; FIGURES],
+        frame: Frame,
+        line: u64,
+        places: Places,
+        progress: Progress,
+    ) -> Result<Progress, Refused>
+        requires lines_fit { LinesFit self.now.first self.now.body.now }
+        requires start_value { self.now.start ≡ ahead (reader_of frame progress.state) self.now.body.now self.now.first }
+        requires steady { Steady 3 frame }
+        requires given_near { GivenNear progress.state }
+        ensures { Carried result frame (lent_both list.old tally.old) (lent_both list.new tally.new) progress (λ j. all_copies j (part_by j self.now) frame line places) }
+    {
+        let found = progress.state;
+        let last = places.lane_end();
+        let count = places.copy_count();
+        let mut now = progress;
+        let mut cursor = Cursor::first();
+        for _ in 0..count {
+            let place = places.copy_place(cursor);
+            now = self.copy_at(list, tally, frame, line, found, place, now)?;
+            cursor = cursor.next(last);
         }
-        now = outcome.progress;
-        cursor = cursor.next(last);
-        m += 1;
+        Ok(now)
     }
-    Outcome::passed(now)
-}
-
-// Copies the part with a body over the layout in force. Its first block is looked for and decoded once.
-fn copy_over(
-    list: &mut [i32],
-    tally: &mut [u64; FIGURES],
-    text: &[u8],
-    body: &[u8],
-    first: u16,
-    macros: Macros,
-    frame: Frame,
-    line: u64,
-    layout: Layout,
-    copies: Copies,
-    progress: Progress,
-) -> Outcome
-    requires { (Steady 3 frame) × (GivenNear progress.state) }
-    ensures { Carried result frame (lent_both list.old tally.old) (lent_both list.new tally.new) progress (λ j. all_copies j (part_of j (bodies_of text.now macros) (body_of first body.now)) frame line layout copies) }
-{
-    let number = first as u64;
-    let given = progress.state.given;
-    let start = look_ahead(frame.reader(given), body, 0, number);
-    if let Ahead::Nothing = start {
-        return copy_blank(frame, line, layout, copies, progress);
-    }
-    copy_body(
-        list, tally, text, body, number, start, macros, frame, line, layout, copies, progress,
-    )
 }
 
 // A G75 or G76 block: the part has to be stored and a layout in force, and then the copies are made.
@@ -212,36 +116,37 @@ pub fn copy_part(
     tally: &mut [u64; FIGURES],
     text: &[u8],
     setup: Setup,
-    macros: Macros,
+    macros: &Macros,
     line: u64,
     copies: Copies,
     progress: Progress,
-) -> Outcome
+) -> Result<Progress, Refused>
     requires { (near setup.origin ≡ true) × (GivenNear progress.state) }
-    ensures { Carried result (ordinary_frame setup) (lent_both list.old tally.old) (lent_both list.new tally.new) progress (λ j. copy_part j (bodies_of text.now macros) setup line copies) }
+    ensures { Carried result (ordinary_frame setup) (lent_both list.old tally.old) (lent_both list.new tally.new) progress (λ j. copy_part j (bodies_of text.now macros.now) setup line copies) }
 {
-    let found = macros.find(copies.part);
-    let Found::Body(start, end, first) = found else {
-        return Outcome::refused(refusal::NOT_STORED, line, progress);
-    };
-    let sheet = setup.sheet;
-    let Sheet::LaidOut(layout) = sheet else {
-        return Outcome::refused(refusal::NO_LAYOUT, line, progress);
-    };
-    let to = bodies::clip(end, text.len());
-    let from = bodies::clip(start, to);
-    let frame = setup.frame();
-    copy_over(
-        list,
-        tally,
-        text,
-        &text[from..to],
-        first,
-        macros,
-        frame,
-        line,
+    let stored = macros.find(copies.part).ok_or(Refusal::NotStored.at(line))?;
+    let layout = setup.sheet.ok_or(Refusal::NoLayout.at(line))?;
+    let places = Places {
+        origin: setup.origin,
         layout,
         copies,
-        progress,
-    )
+    };
+    let body = bodies::bytes_of(text, stored);
+    let first = Location {
+        offset: 0,
+        line: stored.line as u64,
+    };
+    let frame = setup.frame();
+    let start = look_ahead(frame.reader(progress.state.given), body, first);
+    if start.is_none() {
+        return copy_blank(line, places, progress);
+    }
+    let part = ReadyPart {
+        text,
+        macros,
+        body,
+        first,
+        start,
+    };
+    part.copy_over(list, tally, frame, line, places, progress)
 }

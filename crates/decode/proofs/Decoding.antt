@@ -1,28 +1,32 @@
 -- Laws of `decoded_at`: what a caller learns of the line at a place.
-use mathlib.Core.Path.{◌≡◌}
+use Rattle.std.specs.Prelude.{Err, Ok, Result}
+use Rattle.aries.proofs.Outcomes.{done_injective}
+use mathlib.Core.Path.{◌≡◌, ap}
 use mathlib.Core.List.{List}
 use Prim.Native.Nat.{ℕ}
 use native.Mathlib.Omega.{arith}
-use Rattle.aries.specs.declared.block.Decoded.{Decoded}
-use Rattle.aries.specs.declared.block.Decoded.TheVariants as Decoded
 use Rattle.aries.specs.declared.block.Instruction.{Instruction}
 use Rattle.aries.specs.declared.reader.Reader.{Reader}
-use Rattle.aries.specs.Outcome.{Checked, passes, fails}
+use Rattle.aries.specs.declared.refusal.Refusal.{Refusal}
 use Rattle.aries.specs.Blocks.{decode}
 use Rattle.text.specs.Lines.{line_at, line_end}
 use Rattle.decode.specs.Decoding.{decoded_of, decoded_at}
 
-of_instruction : (end : ℕ) (c : Checked Instruction) (i : Instruction) (n : ℕ) → decoded_of end c ≡ Decoded.Instruction i n → (c ≡ passes i) × (end ≡ n)
-of_instruction end (passes k) i n e = let a : k ≡ i = cc in let b : end ≡ n = cc in (rw a, b)
-of_instruction end (fails number) i n e = let z : ◌≡◌ {A = ℕ} 0 1 = cc in absurd (omega arith)
+module _ (end : ℕ) where
+  of_instruction :
+      (x : Result Instruction Refusal) (i : Instruction) (n : ℕ) → decoded_of end x ≡ Ok (i, n) → (x ≡ Ok i) × (end ≡ n)
+  of_instruction (Ok k) i n e =
+      let same = done_injective (k, end) (i, n) e in
+      (ap (λ (p : Instruction × ℕ). Ok p.0) same, ap (λ (p : Instruction × ℕ). p.1) same)
+  of_instruction (Err refusal) i n e = let z : ◌≡◌ {A = ℕ} 0 1 = cc in absurd (omega arith)
 
-of_refusal : (end : ℕ) (c : Checked Instruction) (number : ℕ) → decoded_of end c ≡ Decoded.Refused number → c ≡ fails number
-of_refusal end (passes k) number e = let z : ◌≡◌ {A = ℕ} 0 1 = cc in absurd (omega arith)
-of_refusal end (fails n) number e = let a : n ≡ number = cc in rw a
+  of_refusal : (x : Result Instruction Refusal) (refusal : Refusal) → decoded_of end x ≡ Err refusal → x ≡ Err refusal
+  of_refusal (Ok k) refusal e = let z : ◌≡◌ {A = ℕ} 0 1 = cc in absurd (omega arith)
+  of_refusal (Err n) refusal e = let a : n ≡ refusal = cc in rw a
 
 module _ (r : Reader) (t : List ℕ) (at : ℕ) where
-  pub decoded-instruction : (i : Instruction) (end : ℕ) → decoded_at r t at ≡ Decoded.Instruction i end → (decode r (line_at t at) ≡ passes i) × (line_end t at ≡ end)
+  pub decoded-instruction : (i : Instruction) (end : ℕ) → decoded_at r t at ≡ Ok (i, end) → (decode r (line_at t at) ≡ Ok i) × (line_end t at ≡ end)
   decoded-instruction i end e = of_instruction (line_end t at) (decode r (line_at t at)) i end e
 
-  pub decoded-refused : (number : ℕ) → decoded_at r t at ≡ Decoded.Refused number → decode r (line_at t at) ≡ fails number
-  decoded-refused number e = of_refusal (line_end t at) (decode r (line_at t at)) number e
+  pub decoded-refused : (refusal : Refusal) → decoded_at r t at ≡ Err refusal → decode r (line_at t at) ≡ Err refusal
+  decoded-refused refusal e = of_refusal (line_end t at) (decode r (line_at t at)) refusal e

@@ -1,28 +1,28 @@
--- The law `CallsNear`: X and Y of a line that is a call are near. Words have six digits at most, absent ones are zero, and at
+-- The law `CallsNear`: X and Y of a line that is a call are near. Words have six digits at most, and at
 -- setting 0 no length passes the limit.
+use Rattle.std.specs.Prelude.{None, Some, Err, Ok, Result}
 use mathlib.Core.Path.{◌≡◌, refl, subst}
 use mathlib.Core.Bool.{Bool, true, false, cond, ◌&&◌}
 use mathlib.Core.List.{List}
-use mathlib.Core.Option.{none, some}
 use Prim.Native.Nat.{ℕ}
 use lib.Dec.{eqb}
-use lib.IntN.{nat_abs}
 use lib.ListN.{length}
 use borrow.Author.Tests.{le-leb}
+use Rattle.aries.specs.declared.refusal.Refusal.TheVariants.{NotListed, WrongNumber}
 use Rattle.aries.specs.declared.block.Block.{Block}
-use Rattle.aries.specs.declared.block.Block.TheVariants as Block
 use Rattle.aries.specs.declared.block.Instruction.{Instruction}
 use Rattle.aries.specs.declared.block.Kind.{Kind}
 use Rattle.aries.specs.declared.block.Kind.TheVariants.{G26, G28, G29, G36, G37, G50, G70, G72, G75, G76, G92, G93, G98, Position, Lone, LetterM, LetterB, LetterU, LetterV, LetterW, Unknown, G66, G73}
 use Rattle.aries.specs.declared.reader.Reader.{Reader}
-use Rattle.aries.specs.Outcome.{Checked, passes, fails}
+use Rattle.aries.specs.declared.refusal.Refusal.{Refusal}
 use Rattle.aries.specs.Letters.{letter_x, letter_y}
 use Rattle.aries.specs.Words.{LetterWord, formed_words, size_of, words}
-use Rattle.aries.specs.ByLetter.{Letters, Words, at, by_letter}
+use Rattle.aries.specs.ByLetter.{Letters, by_letter}
+use Rattle.aries.specs.declared.word.Words.{Words}
 use Rattle.aries.specs.Forms.{in_places, kind_of, is_listed}
 use Rattle.aries.specs.Judging.{farthest, is_near}
 use Rattle.aries.specs.Numbers.{in_hundredths, lengths_fit, is_ranged}
-use Rattle.aries.specs.Blocks.{block_of, instruction_of, decode_words, decoded, decode}
+use Rattle.aries.specs.Blocks.{number, count, block_of, instruction_of, decode_words, decoded, decode}
 use Rattle.aries.specs.Steady.{CallNear, CallsNear}
 use Rattle.words.proofs.Gathering.{AllFormed, front_formed}
 use Rattle.lengths.specs.Sized.{Sized}
@@ -38,8 +38,8 @@ BlockNear (Block.Outside o) = Unit {0}
 BlockNear (Block.Call c) = CallNear c
 
 module _ (w : Letters) (sized : Sized w) where
-  value-near : (letter : ℕ) → is_near (at w letter).value ≡ true
-  value-near letter = le-leb (nat_abs (at w letter).value) farthest (sized.each letter).small
+  value-near : (letter : ℕ) → is_near (number w letter) ≡ true
+  value-near letter = le-leb (count w letter) farthest (sized.each letter)
 
   block_near : (k : Kind) → BlockNear (block_of w k)
   unfolding block_of
@@ -70,9 +70,9 @@ module _ (w : Letters) (sized : Sized w) where
 -- ---- Lines
 
 -- so it is with an instruction, if there is one
-abbrev CheckedNear : Checked Instruction → Type 0
-CheckedNear (passes i) = BlockNear i.block
-CheckedNear (fails number) = Unit {0}
+abbrev CheckedNear : Result Instruction Refusal → Type 0
+CheckedNear (Ok i) = BlockNear i.block
+CheckedNear (Err number) = Unit {0}
 
 module _ (r : Reader) where
   -- words past the tests of 5 and 6
@@ -91,7 +91,7 @@ module _ (r : Reader) where
 
       go :
           (t u : Bool) → (lengths_fit r.setting k w.letters && is_ranged h k) ≡ u
-          → CheckedNear (cond t (cond u (passes (instruction_of k w.measure h)) (fails 6)) (fails 5))
+          → CheckedNear (cond t (cond u (Ok (instruction_of k w.measure h)) (Err WrongNumber)) (Err NotListed))
       go false u e = tt
       go true false e = tt
       go true true e =
@@ -101,7 +101,7 @@ module _ (r : Reader) where
   unfolding decode words
   line-near line = go (eqb (size_of (formed_words line)) (length line))
     where
-      go : (t : Bool) → CheckedNear (decoded r (cond t (some (formed_words line)) none))
+      go : (t : Bool) → CheckedNear (decoded r (cond t (Some (formed_words line)) None))
       go true = words-near (formed_words line) (front_formed (length line) line)
       go false = tt
 

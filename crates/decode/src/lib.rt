@@ -4,27 +4,21 @@
 ghost use Rattle.std.specs.Prelude.{◌≡◌};
 ghost use Rattle.decode.specs.Decoding.{decoded_at};
 
-use aries::block::{Decoded, Instruction, Judged};
+use aries::block::Instruction;
 use aries::reader::Reader;
-use aries::refusal;
+use aries::refusal::Refusal;
 use blocks::request::block_of;
+use words::Line;
 
-// The instruction of the line at a place of the text, with the place where the line ends, or the number of its refusal.
-pub fn decode(reader: Reader, text: &[u8], at: usize) -> Decoded
+// The instruction of the line at a place of the text, with the place where the line ends, or its refusal.
+pub fn decode(reader: Reader, text: &[u8], at: usize) -> Result<(Instruction, usize), Refusal>
     ensures { result ≡ decoded_at reader text.now at }
 {
-    let mut forms = [0; 26];
-    let mut numbers = [0; 26];
-    let summary = words::read_words(text, at, &mut forms, &mut numbers);
-    if !summary.formed {
-        return Decoded::Refused(refusal::WORD_FORM);
-    }
-    let judged = blocks::judge(reader, &forms, &mut numbers, summary);
-    match judged {
-        Judged::Of(kind, measure) => {
-            let block = block_of(&forms, &numbers, kind);
-            Decoded::Instruction(Instruction { measure, block }, summary.end)
-        }
-        Judged::Refused(number) => Decoded::Refused(number),
-    }
+    let mut line = Line::none();
+    let Ok(end) = line.read(text, at) else {
+        return Err(Refusal::WordForm);
+    };
+    let (kind, measure) = blocks::judge(reader, &mut line)?;
+    let block = block_of(&line.words, kind);
+    Ok((Instruction { measure, block }, end))
 }

@@ -1,40 +1,21 @@
--- Laws of counting holes: one more is looked at.
-use mathlib.Core.Path.{◌≡◌}
-use mathlib.Core.Bool.{true, false}
-use mathlib.Core.List.{List, [], ◌∷◌}
-use mathlib.Core.Option.{Option}
-use Prim.Native.Nat.{ℕ, suc}
-use Rattle.drawings.specs.declared.hole.Hole.{Hole}
-use Rattle.drawings.specs.Holes.{is_at}
-use Rattle.drawings.specs.Counts.{times, is_over, first_over}
+-- Laws of counting holes.
+use Rattle.std.proofs.Common.{◌≡◌, ℕ, ◌+◌, Bool, cond, List, [], ◌∷◌, map, Option, refl, ap, ◌∙◌, arith}
+use Rattle.std.specs.Option.{option_map}
+use Rattle.std.specs.List.{position, position_from, fold, count_by}
+use Rattle.std.proofs.lemmas.Iterator.Adapters.{position_from-zero}
 
-module _ {ks rest : List (Option Hole)} {k : Option Hole} (e : ks ≡ k ∷ rest) where
-  -- a hole stands there: it does once more than behind
-  pub times_there : (h : Hole) → is_at h k ≡ true → times h ks ≡ suc (times h rest)
-  unfolding times
-  times_there h t = rw (e, times, t)
+module _ {A B : Type 0} (f : A → B) (p : B → Bool) where
+  from_next : (i : ℕ) (xs : List A) → option_map (λ n. n + 1) (position_from (λ x. p (f x)) i xs) ≡ position_from p (i + 1) (map f xs)
+  from_next i [] = refl
+  from_next i (x ∷ xs) = grind (arith, from_next (i + 1) xs)
 
-  pub times_elsewhere : (h : Hole) → is_at h k ≡ false → times h ks ≡ times h rest
-  unfolding times
-  times_elsewhere h t = rw (e, times, t)
+  -- the index of the first that passes, counted from 1
+  pub position_from-one : (xs : List A) (found : Option ℕ) → found ≡ position (λ x. p (f x)) xs → option_map (λ n. n + 1) found ≡ position_from p 1 (map f xs)
+  position_from-one xs found e = ap (option_map (λ n. n + 1)) (e ∙ position_from-zero (λ x. p (f x)) xs) ∙ from_next 0 xs
 
-  -- what stands there is the first of those that stand more often
-  pub over_here : (these those : List (Option Hole)) (i : ℕ) → is_over these those k ≡ true → first_over these those i ks ≡ i
-  unfolding first_over
-  over_here these those i t = rw (e, first_over, t)
+count_from : {A B : Type 0} (f : A → B) (p : B → Bool) (xs : List A) (n : ℕ) → fold (λ a x. a + cond (p (f x)) 1 0) n xs ≡ fold (λ a x. a + cond (p x) 1 0) n (map f xs)
+count_from f p [] n = refl
+count_from f p (x ∷ xs) n = count_from f p xs (n + cond (p (f x)) 1 0)
 
-  pub over_later :
-      (these those : List (Option Hole)) (i : ℕ) → is_over these those k ≡ false
-      → first_over these those i ks ≡ first_over these those (suc i) rest
-  unfolding first_over
-  over_later these those i t = rw (e, first_over, t)
-
-module _ {ks : List (Option Hole)} (e : ks ≡ []) where
-  -- where none is left a hole does not stand
-  pub times-past : (h : Hole) → times h ks ≡ 0
-  unfolding times
-  times-past h = rw e
-
-  pub over-past : (these those : List (Option Hole)) (i : ℕ) → first_over these those i ks ≡ 0
-  unfolding first_over
-  over-past these those i = rw e
+pub count_by-map : {A B : Type 0} (f : A → B) (p : B → Bool) (xs : List A) → count_by (λ x. p (f x)) xs ≡ count_by p (map f xs)
+count_by-map f p xs = count_from f p xs 0

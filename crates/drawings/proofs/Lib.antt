@@ -1,4 +1,4 @@
 pub mod Holes
 pub mod Counts
-pub mod Checks
 pub mod Repeats
+pub mod Checks

@@ -1,41 +1,36 @@
--- Laws of hits made twice: one more is looked at.
-use mathlib.Core.Path.{◌≡◌}
-use mathlib.Core.Bool.{true, false}
-use mathlib.Core.List.{List, [], ◌∷◌}
-use mathlib.Core.Option.{Option}
-use Prim.Native.Nat.{ℕ, suc}
-use borrow.Author.Tests.{eq-eqb, ne_eqb}
+-- Laws of hits made twice.
+use Rattle.std.proofs.Common.{◌≡◌, ℕ, zero, suc, ◌<◌, List, [], ◌∷◌, ◌++◌, map, length, get_or, take, Option, Some, None, MatchOption, sym, refl, ap, ◌∙◌, arith, append_assoc}
+use Rattle.std.proofs.lemmas.List.{append-nil}
 use Rattle.drawings.specs.declared.hole.Hole.{Hole}
-use Rattle.drawings.specs.declared.Repeat.TheVariants.{Nothing, Entry}
-use Rattle.drawings.specs.Holes.{is_at}
-use Rattle.drawings.specs.Repeats.{index_among, repeat_at, repeat_from}
+use Rattle.drawings.specs.declared.Repeat.{Repeat}
+use Rattle.drawings.specs.Repeats.{repeat_of, repeat_after}
 
-module _ {ks rest : List (Option Hole)} {k : Option Hole} (e : ks ≡ k ∷ rest) where
-  -- the hole stands there
-  pub index_here : (h : Hole) (i n : ℕ) → is_at h k ≡ true → index_among h i (suc n) ks ≡ i
-  unfolding index_among
-  index_here h i n t = rw (e, index_among, t)
+module _ {A : Type 0} (hole_of : A → Option Hole) (default : A) where
+  -- what the place past i others repeats of those before it
+  abbrev pub repeat_at : List (Option Hole) → List A → ℕ → Option Repeat
+  repeat_at before places i = repeat_of (before ++ map hole_of (take i places)) (hole_of (get_or places i default))
 
-  pub index_later : (h : Hole) (i n : ℕ) → is_at h k ≡ false → index_among h i (suc n) ks ≡ index_among h (suc i) n rest
-  unfolding index_among
-  index_later h i n t = rw (e, index_among, t)
+  -- the first place that repeats one before it is past i others, which repeat none
+  abbrev pub IsFirstRepeat : List (Option Hole) → List A → Option Repeat → Type 0
+  IsFirstRepeat before places r =
+      MatchOption r ((i : ℕ) → i < length places → repeat_at before places i ≡ None)
+      (λ s. (i : ℕ) × (i < length places) × (repeat_at before places i ≡ Some s) × ((j : ℕ) → j < i → repeat_at before places j ≡ None))
 
-  -- what stands there has stood before
-  pub repeat_here :
-      (all : List (Option Hole)) (n : ℕ) → (repeat_at all n k ≡ 0 → ⊥) → repeat_from all n ks ≡ Entry (suc n) (repeat_at all n k)
-  unfolding repeat_from
-  repeat_here all n t = rw (e, repeat_from, ne_eqb (repeat_at all n k) 0 t)
+  next : (before : List (Option Hole)) (p : A) (places : List A) (i : ℕ) → repeat_at (before ++ hole_of p ∷ []) places i ≡ repeat_at before (p ∷ places) (suc i)
+  next before p places i = ap (λ b. repeat_of b (hole_of (get_or places i default))) (append_assoc before (hole_of p ∷ []) (map hole_of (take i places)))
 
-  pub repeat_later : (all : List (Option Hole)) (n : ℕ) → repeat_at all n k ≡ 0 → repeat_from all n ks ≡ repeat_from all (suc n) rest
-  unfolding repeat_from
-  repeat_later all n t = rw (e, repeat_from, eq-eqb (repeat_at all n k) 0 t)
+  first : (before : List (Option Hole)) (p : A) (places : List A) (o : Option Repeat) → repeat_at before (p ∷ places) 0 ≡ o → repeat_of before (hole_of p) ≡ o
+  first before p places o e = ap (λ b. repeat_of b (hole_of p)) (sym (append-nil before)) ∙ e
 
--- among none
-pub index_none : (h : Hole) (i n : ℕ) (ks : List (Option Hole)) → n ≡ 0 → index_among h i n ks ≡ 0
-unfolding index_among
-index_none h i n ks e = rw e
-
--- none is left
-pub repeat_past : {ks : List (Option Hole)} → ks ≡ [] → (all : List (Option Hole)) (n : ℕ) → repeat_from all n ks ≡ Nothing
-unfolding repeat_from
-repeat_past e all n = rw e
+  -- such a place is the one that the definition finds
+  pub repeat_after_from : (before : List (Option Hole)) (places : List A) (r : Option Repeat) → IsFirstRepeat before places r → repeat_after before (map hole_of places) ≡ r
+  repeat_after_from before [] None h = refl
+  repeat_after_from before [] (Some s) h = absurd (omega arith)
+  repeat_after_from before (p ∷ places) None h =
+      rw (first before p places None (h 0 (omega arith)))
+      (repeat_after_from (before ++ hole_of p ∷ []) places None (λ i w. next before p places i ∙ h (suc i) (omega arith)))
+  repeat_after_from before (p ∷ places) (Some s) (zero, w, e, none) = rw (first before p places (Some s) e)
+  repeat_after_from before (p ∷ places) (Some s) (suc i, w, e, none) =
+      rw (first before p places None (none 0 (omega arith)))
+      (repeat_after_from (before ++ hole_of p ∷ []) places (Some s)
+      (i, omega arith, next before p places i ∙ e, λ j below. next before p places j ∙ none (suc j) (omega arith)))

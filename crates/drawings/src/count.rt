@@ -1,36 +1,43 @@
-// How often a hole stands in a table and in a list.
-ghost use Rattle.std.specs.Prelude.{◌≡◌};
-ghost use Rattle.drawings.specs.Holes.{table_holes, list_holes};
-ghost use Rattle.drawings.specs.Counts.{times};
+// How often a hole stands at some places, and the first that stands at some more often than at others.
+ghost use Rattle.std.specs.Prelude.{◌≡◌, map};
+ghost use Rattle.drawings.specs.Counts.{times, is_over, first_over};
+ghost use Rattle.drawings.specs.Repeats.{first_place};
 
-use crate::hole::{ENTRY, Hole, ROW, is_in_entry, is_in_row};
+use crate::hole::{Hole, Place};
 
-// How often a hole stands in a table.
-pub fn times_in_table(hole: Hole, table: &[i32]) -> usize
-    ensures { result ≡ times hole (table_holes table.now) }
+// How often a hole stands at some places.
+pub fn times<P: Place>(hole: Hole, places: &[P]) -> usize
+    ensures { result ≡ times hole (map P.hole_of places.now) }
 {
-    let mut n = 0;
-    let mut i = 0;
-    while i < table.len() / ROW {
-        if is_in_row(hole, table, i) {
-            n += 1;
-        }
-        i += 1;
-    }
-    n
+    places
+        .iter()
+        .filter(|place| place.hole() == Some(hole))
+        .count()
 }
 
-// How often a hole is made by a list.
-pub fn times_in_list(hole: Hole, list: &[i32]) -> usize
-    ensures { result ≡ times hole (list_holes list.now) }
+// Whether a hole, where there is one, stands at these more often than at those.
+fn is_over<P: Place, Q: Place>(there: Option<Hole>, these: &[P], those: &[Q]) -> bool
+    ensures { result ≡ is_over (map P.hole_of these.now) (map Q.hole_of those.now) there }
 {
-    let mut n = 0;
-    let mut i = 0;
-    while i < list.len() / ENTRY {
-        if is_in_entry(hole, list, i) {
-            n += 1;
-        }
-        i += 1;
-    }
-    n
+    there.is_some_and(|hole| times(hole, those) < times(hole, these))
+}
+
+// The first of these whose hole stands at these more often than at those, counted from 1.
+pub fn first_over<P: Place, Q: Place>(these: &[P], those: &[Q]) -> Option<usize>
+    ensures { result ≡ first_over (map P.hole_of these.now) (map Q.hole_of those.now) }
+{
+    these
+        .iter()
+        .position(|place| is_over(place.hole(), these, those))
+        .map(|i| i + 1)
+}
+
+// The first of some places at which a hole stands, counted from 1.
+pub fn first_place<P: Place>(hole: Hole, places: &[P]) -> Option<usize>
+    ensures { result ≡ first_place hole (map P.hole_of places.now) }
+{
+    places
+        .iter()
+        .position(|place| place.hole() == Some(hole))
+        .map(|i| i + 1)
 }

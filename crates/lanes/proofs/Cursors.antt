@@ -50,6 +50,9 @@ next-lane last c h k =
     let e : passed last (cursor (c.lane + 1) 0) ≡ suc (passed last c) = omega arith in
     sym (at-passed last (cursor (c.lane + 1) 0) (omega arith)) ∙ ap (cursor_at last) e
 
+-- both
+pub ruleset next_places = (next-inside, next-lane)
+
 -- the lane of a cursor's place
 pub lane-passed : (last : ℕ) (c : Cursor) → c.rest ≤ last → lane last (passed last c) ≡ c.lane
 lane-passed last c h = ap (λ (d : Cursor). d.lane) (at-passed last c h)
@@ -58,6 +61,8 @@ lane-passed last c h = ap (λ (d : Cursor). d.lane) (at-passed last c h)
 pub along-passed : (last : ℕ) (c : Cursor) → c.rest ≤ last → along last (passed last c) ≡ cond (eqb (c.lane % 2) 0) c.rest (last - c.rest)
 along-passed last c h =
     ap (λ (d : Cursor). cond (eqb (d.lane % 2) 0) d.rest (last - d.rest)) (at-passed last c h)
+
+pub ruleset along_place = (along-passed)
 
 -- a rest is within its lane
 pub rest-within : (last m : ℕ) → m % suc last ≤ last

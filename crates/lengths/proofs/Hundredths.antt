@@ -1,12 +1,15 @@
--- Laws of words in hundredths: one word of the two lists, words that stay as they are, and that all are sized where none
--- passes the limit.
+-- Laws of words in hundredths: one letter and several, words that stay as they are, and that all are sized where none passes the
+-- limit.
+use Rattle.std.specs.Prelude.{None, Some, Option, option_map}
 use mathlib.Core.Path.{◌≡◌, refl, sym, ap, ap₂, ◌∙◌}
-use mathlib.Core.Bool.{Bool, true, false, not, ◌&&◌}
-use mathlib.Core.List.{List, [], ◌∷◌}
-use Prim.Native.Nat.{ℕ, ◌<◌}
+use mathlib.Core.Bool.{Bool, true, false, not, ◌&&◌, and-true, and_assoc}
+use mathlib.Core.List.{List, [], ◌∷◌, ◌++◌}
+use Prim.Native.Nat.{ℕ, zero, suc, ◌<◌, ◌≤◌}
+use native.Mathlib.Nat.{not-suc-le-zero}
+use native.Mathlib.Omega.{arith}
 use lib.Dec.{eqb}
-use lib.IntN.{ℤ, pos, nat_abs, ◌*ℤ◌}
-use lib.ListN.{length, set}
+use lib.IntN.{pos, nat_abs, ◌*ℤ◌}
+use lib.ListN.{length, get_or, set, take}
 use lib.Seq.{set-get_or, get_or-set_other}
 use borrow.Author.Tests.{eqb-false, leb-true, le-leb, not-true}
 use Rattle.aries.specs.declared.block.Kind.{Kind}
@@ -17,42 +20,43 @@ use Rattle.aries.specs.declared.word.Word.{Word}
 use Rattle.aries.specs.Letters.{index_of}
 use Rattle.aries.specs.Test.{every}
 use Rattle.aries.specs.Text.{bytes}
-use Rattle.aries.specs.ByLetter.{Letters, at, no_word}
+use Rattle.aries.specs.ByLetter.{Letters, at, absent_or}
 use Rattle.aries.specs.Judging.{farthest, is_near}
-use Rattle.signed.proofs.Tests.{and_left, and_right}
+use Rattle.signed.proofs.Tests.{and_intro, and_left, and_right}
 use Rattle.aries.specs.Numbers.{length_of, with_value, lengths_of, word_in_hundredths, letters_in_hundredths, in_hundredths, lengths_fit, is_ranged}
 use Rattle.aries.proofs.Settings.{pointed_alike, hundredths-written}
-use Rattle.aries.proofs.Words.{absent-hundredths, each_set}
-use Rattle.words.specs.Keeping.{letters_of}
-use Rattle.words.proofs.Keeping.{letters-at, letters-number}
-use Rattle.lengths.specs.Sized.{SizedWord, Sized}
-use Rattle.lengths.specs.Others.{is_other}
-use Rattle.lengths.proofs.Sized.{no_word_sized, by_place}
+use Rattle.aries.proofs.Words.{each_set}
+use Rattle.lengths.specs.Sized.{Sized}
+use Rattle.lengths.specs.Hundredths.{fits, is_other, is_apart}
+use Rattle.lengths.proofs.Sized.{SizedWord, by_place}
 
 -- ---- One word
 
--- a word with a point stays
-pub one_pointed : (w : Letters) (letter : ℕ) → (at w letter).pointed ≡ true → letters_in_hundredths Millimetres w (letter ∷ []) ≡ w
-one_pointed w letter e =
-    ap (λ (z : ℤ). set w (index_of letter) (with_value (at w letter) z)) (pointed_alike Millimetres (at w letter) e)
-    ∙ set-get_or w (index_of letter) no_word
+-- a word with a point stays, and so does an absent one
+pub one_stays :
+    (w : Letters) (letter : ℕ) → option_map (word_in_hundredths Millimetres) (at w letter) ≡ at w letter
+    → letters_in_hundredths Millimetres w (letter ∷ []) ≡ w
+one_stays w letter e = ap (set w (index_of letter)) e ∙ set-get_or w (index_of letter) None
+
+pub pointed_stays : (v : Word) → v.pointed ≡ true → word_in_hundredths Millimetres v ≡ v
+pointed_stays v e = ap (with_value v) (pointed_alike Millimetres v e)
 
 -- without one it is multiplied
 pub length_multiplied : (v : Word) → v.pointed ≡ false → length_of Millimetres v ≡ pos 100 *ℤ v.value
 unfolding length_of
 length_multiplied v e = simp e
 
-module _ (forms : List ℕ) (numbers : List ℤ) (letter : ℕ) where
-  abbrev pub word : Word
-  word = at (letters_of forms numbers) letter
+-- ---- Several words
 
-  pub one_multiplied :
-      index_of letter < 26 → index_of letter < length numbers → word.pointed ≡ false
-      → letters_of forms (set numbers (index_of letter) (pos 100 *ℤ word.value)) ≡ letters_in_hundredths Millimetres (letters_of forms numbers) (letter ∷ [])
-  one_multiplied inside h e =
-      letters-number forms numbers (index_of letter) (pos 100 *ℤ word.value) h
-      ∙ ap (λ (v : Word). set (letters_of forms numbers) (index_of letter) (with_value v (pos 100 *ℤ word.value))) (sym (letters-at forms numbers (index_of letter) inside))
-      ∙ ap (λ (z : ℤ). set (letters_of forms numbers) (index_of letter) (with_value word z)) (sym (length_multiplied word e))
+pub hundredths_snoc :
+    (s : Setting) (w : Letters) (ls : List ℕ) (l : ℕ)
+    → letters_in_hundredths s w (ls ++ l ∷ []) ≡ letters_in_hundredths s (letters_in_hundredths s w ls) (l ∷ [])
+hundredths_snoc s w [] l = refl
+hundredths_snoc s w (m ∷ ls) l = hundredths_snoc s (letters_in_hundredths s w (m ∷ [])) ls l
+
+pub every_snoc : {A : Type 0} (f : A → Bool) (ls : List A) (l : A) → every f (ls ++ l ∷ []) ≡ (every f ls && f l)
+every_snoc f [] l = and-true (f l)
+every_snoc f (m ∷ ls) l = ap (◌&&◌ (f m)) (every_snoc f ls l) ∙ sym (and_assoc (f m) (every f ls) (f l))
 
 -- ---- Other words
 
@@ -63,57 +67,68 @@ pub others_stay :
 others_stay s [] w b e = refl
 others_stay s (l ∷ ls) w b e =
     others_stay s ls (letters_in_hundredths s w (l ∷ [])) b (and_right other _ e)
-    ∙ get_or-set_other w (index_of l) (index_of b) (word_in_hundredths s (at w l)) no_word (eqb-false (index_of b) (index_of l) (not-true (eqb (index_of b) (index_of l)) (and_left other _ e)))
+    ∙ get_or-set_other w (index_of l) (index_of b) (option_map (word_in_hundredths s) (at w l)) None (eqb-false (index_of b) (index_of l) (not-true (eqb (index_of b) (index_of l)) (and_left other _ e)))
   where
     other : Bool
     other = not (eqb (index_of b) (index_of l))
 
+-- what every element passes, one passes
+every_at : {A : Type 0} (f : A → Bool) (ls : List A) (k : ℕ) (d : A) → every f ls ≡ true → k < length ls → f (get_or ls k d) ≡ true
+every_at f [] k d e h = absurd (not-suc-le-zero h)
+every_at f (l ∷ ls) zero d e h = and_left (f l) (every f ls) e
+every_at f (l ∷ ls) (suc k) d e h = every_at f ls k d (and_right (f l) (every f ls) e) (omega arith)
+
+-- where no letter stands twice, each is none of those before it
+pub apart_before : (ls : List ℕ) (k : ℕ) → is_apart ls ≡ true → k < length ls → is_other (take k ls) (get_or ls k 0) ≡ true
+apart_before ls zero e h = refl
+apart_before [] (suc k) e h = absurd (not-suc-le-zero h)
+apart_before (l ∷ ls) (suc k) e h =
+    and_intro _ _
+    (every_at (λ (m : ℕ). not (eqb (index_of m) (index_of l))) ls k 0 (and_left others _ e) (omega arith))
+    (apart_before ls k (and_right others _ e) (omega arith))
+  where
+    others : Bool
+    others = every (λ (m : ℕ). not (eqb (index_of m) (index_of l))) ls
+
 -- ---- Sized words
 
 -- one with a point can't pass the limit
-pub pointed_near : (v : Word) → SizedWord v → v.pointed ≡ true → is_near (length_of Millimetres v) ≡ true
-pointed_near v sized e = rw (pointed_alike Millimetres v e) (le-leb (nat_abs v.value) farthest sized.small)
+pub pointed_near : (v : Word) → nat_abs v.value ≤ 999999 → v.pointed ≡ true → is_near (length_of Millimetres v) ≡ true
+pointed_near v sized e = rw (pointed_alike Millimetres v e) (le-leb (nat_abs v.value) farthest sized)
 
 -- one that does not pass it
-word_sized : (v : Word) → SizedWord v → is_near (length_of Millimetres v) ≡ true → SizedWord (word_in_hundredths Millimetres v)
-word_sized v sized near =
-    record {
-      absent = λ e. absent-hundredths Millimetres v (sized.absent e);
-      small = leb-true (nat_abs (length_of Millimetres v)) farthest near;
-    }
+word_sized :
+    (o : Option Word) → absent_or (λ (v : Word). is_near (length_of Millimetres v)) o ≡ true
+    → SizedWord (option_map (word_in_hundredths Millimetres) o)
+word_sized None near = omega arith
+word_sized (Some v) near = leb-true (nat_abs (length_of Millimetres v)) farthest near
 
 -- the limit of one letter is not that of another
 limits_stay :
     (l : ℕ) (ls : List ℕ) (w : Letters) → every (λ m. not (eqb (index_of m) (index_of l))) ls ≡ true
-    → every (λ m. is_near (length_of Millimetres (at (letters_in_hundredths Millimetres w (l ∷ [])) m))) ls
-    ≡ every (λ m. is_near (length_of Millimetres (at w m))) ls
+    → every (fits (letters_in_hundredths Millimetres w (l ∷ []))) ls ≡ every (fits w) ls
 limits_stay l [] w e = refl
 limits_stay l (m ∷ ms) w e =
     ap₂ ◌&&◌
-    (ap (λ (v : Word). is_near (length_of Millimetres v)) (others_stay Millimetres (l ∷ []) w m (simp (and_left (not (eqb (index_of m) (index_of l))) _ e))))
+    (ap (absent_or (λ (v : Word). is_near (length_of Millimetres v))) (others_stay Millimetres (l ∷ []) w m (simp (and_left (not (eqb (index_of m) (index_of l))) _ e))))
     (limits_stay l ms w (and_right (not (eqb (index_of m) (index_of l))) _ e))
 
--- no letter stands twice
-abbrev apart : List ℕ → Bool
-apart [] = true
-apart (l ∷ ls) = every (λ m. not (eqb (index_of m) (index_of l))) ls && apart ls
-
 letters_sized :
-    (ls : List ℕ) (w : Letters) → apart ls ≡ true → Sized w → every (λ l. is_near (length_of Millimetres (at w l))) ls ≡ true
+    (ls : List ℕ) (w : Letters) → is_apart ls ≡ true → Sized w → every (fits w) ls ≡ true
     → Sized (letters_in_hundredths Millimetres w ls)
 letters_sized [] w a sized e = sized
 letters_sized (l ∷ ls) w a sized e =
     letters_sized ls (letters_in_hundredths Millimetres w (l ∷ [])) (and_right others _ a)
-    (record { each = λ letter. each_set SizedWord no_word_sized w (index_of l) (word_in_hundredths Millimetres (at w l)) (word_sized (at w l) (sized.each l) (and_left first _ e)) (by_place w sized) (index_of letter) })
+    (record { each = λ letter. each_set SizedWord (omega arith) w (index_of l) (option_map (word_in_hundredths Millimetres) (at w l)) (word_sized (at w l) (and_left first _ e)) (by_place w sized) (index_of letter) })
     (limits_stay l ls w (and_left others _ a) ∙ and_right first _ e)
   where
     others : Bool
     others = every (λ m. not (eqb (index_of m) (index_of l))) ls
 
     first : Bool
-    first = is_near (length_of Millimetres (at w l))
+    first = fits w l
 
-kinds_apart : (k : Kind) → apart (bytes (lengths_of k)) ≡ true
+pub kinds_apart : (k : Kind) → is_apart (bytes (lengths_of k)) ≡ true
 unfolding bytes
 kinds_apart G26 = refl
 kinds_apart G28 = refl

@@ -1,4 +1,3 @@
 pub mod Arms
 pub mod Sized
 pub mod Hundredths
-pub mod Tests

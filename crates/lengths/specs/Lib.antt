@@ -1,2 +1,2 @@
 pub mod Sized
-pub mod Others
+pub mod Hundredths

@@ -1,7 +1,7 @@
--- Laws of how many hits a grid makes, and of how far patterns reach.
+-- Laws of how far patterns reach, and of where the hits of a grid lie.
 use mathlib.Core.Path.{◌≡◌}
 use mathlib.Core.Bool.{Bool, true, false}
-use Prim.Native.Nat.{ℕ, suc, ◌+◌, ◌-◌, ◌*◌, ◌≤◌, ◌<◌}
+use Prim.Native.Nat.{ℕ, suc, ◌-◌, ◌*◌, ◌≤◌, ◌<◌}
 use native.Mathlib.Nat.{mul-le-mul, le_trans, le_refl}
 use native.Mathlib.Omega.{arith}
 use lib.IntN.{ℤ, pos, nat_abs, ◌*ℤ◌}
@@ -13,15 +13,8 @@ use Rattle.aries.specs.Judging.{is_near, farthest}
 use Rattle.aries.specs.Lanes.{lane}
 use Rattle.patterns.specs.Offsets.{lane_end}
 
--- columns times rows, of 16 bits each
-pub places-small : (x y : ℕ) → x < 65536 → y < 65536 → (x + 1) * (y + 1) ≤ 4294967296
-places-small x y h k =
-    let p : x + 1 ≤ 65536 = omega arith in
-    let q : y + 1 ≤ 65536 = omega arith in
-    mul-le-mul p q
-
 -- a near coordinate, in size
-pub near-size : (z : ℤ) → is_near z ≡ true → nat_abs z ≤ farthest
+near-size : (z : ℤ) → is_near z ≡ true → nat_abs z ≤ farthest
 near-size z e = leb-true (nat_abs z) farthest e
 
 -- where the farthest hit of a line is near, each is

@@ -1,4 +1,4 @@
-pub mod Circles
+pub mod Carrying
 pub mod Comes
 pub mod Holes
 pub mod Offsets

@@ -1,26 +1,32 @@
 -- A series of hits by what it depends on alone: where it starts, what its hits are made with and how many entries came before.
-use Rattle.std.specs.Prelude.{ℕ, zero, suc}
+use Rattle.std.specs.Prelude.{◌≡◌, ◌<◌, ℕ, Result, Ok, Err}
 use Rattle.aries.specs.declared.point.Point.{Point}
+use Rattle.aries.specs.declared.point.WidePoint.{WidePoint}
 use Rattle.aries.specs.declared.block.Pattern.{Pattern}
-use Rattle.aries.specs.declared.state.Frame.{Frame}
+use Rattle.aries.specs.declared.refusal.Refusal.{Refusal}
 use Rattle.aries.specs.declared.state.Progress.{Progress}
-use Rattle.aries.specs.declared.state.Status.{Status}
-use Rattle.aries.specs.declared.state.Status.TheVariants.{Passed, Refused}
-use Rattle.patterns.specs.declared.series.Tooling.{Tooling}
+use Rattle.press.specs.declared.hits.Tooling.{Tooling}
+use Rattle.patterns.specs.declared.series.Series.{Series}
 use Rattle.patterns.specs.declared.series.Reached.{Reached}
-use Rattle.aries.specs.Outcome.{Out}
+use Rattle.aries.specs.Outcome.{Out, in_line}
 use Rattle.aries.specs.Entries.{Made, map_after}
 use Rattle.aries.specs.Judging.{limits}
-use Rattle.aries.specs.Patterns.{hit_count, punches, ending}
+use Rattle.aries.specs.Moves.{◌⊕◌}
+use Rattle.aries.specs.Patterns.{hit_offset, hit_count, punches, ending}
 use Rattle.aries.specs.Runs.{Lent, entries_made, Ran}
+use Rattle.aries.specs.WidePoints.{point_of}
 
--- a progress with this tool and mode that has come to a point, with so many entries
-abbrev pub come : Progress → Tooling → Point → ℕ → Progress
-come g tooling p entries =
+-- before the first hit
+abbrev pub begun : Series → Reached
+begun s = record { current = s.start; entries = s.entries }
+
+-- a progress with this tool and mode that has come so far
+abbrev pub come : Progress → Tooling → Reached → Progress
+come g tooling r =
     record {
       state =
           record {
-            current = p;
+            current = r.current;
             waiting = g.state.waiting;
             incremental = g.state.incremental;
             nibble = tooling.nibble;
@@ -30,20 +36,28 @@ come g tooling p entries =
             given = g.state.given;
           };
       blocks = g.blocks;
-      entries = entries;
+      entries = r.entries;
     }
 
--- the status by a refusal's number, which is 0 for none
-abbrev pub status_at : ℕ → ℕ → Status
-status_at zero line = Passed
-status_at (suc n) line = Refused (suc n) line
+-- how far a series has come as a progress, or its refusal
+abbrev pub come_out : Progress → Tooling → Out Reached → Out Progress
+come_out g tooling (Ok r) = Ok (come g tooling r)
+come_out g tooling (Err e) = Err e
 
--- What was reached from a point on, after so many entries, is what something comes to, whatever the line and all else of a
--- progress.
-abbrev pub Comes : Reached → Frame → Tooling → Point → ℕ → Lent → Lent → (ℕ → Progress → Out (Made Progress)) → Type 0
-Comes r f tooling from entries before after what =
-    (line : ℕ) (g : Progress) → Ran entries_made f.job (status_at r.number line) (come g tooling r.current r.entries) before after entries (what line (come g tooling from entries))
+-- What a series reaches from somewhere on is what something comes to, whatever the line and all else of a progress.
+abbrev pub Comes : Result Reached Refusal → Series → Reached → Lent → Lent → (ℕ → Progress → Out (Made Progress)) → Type 0
+Comes r s from before after what =
+    (line : ℕ) (g : Progress)
+    → Ran entries_made s.frame.job (come_out g s.tooling (in_line line r)) before after from.entries (what line (come g s.tooling from))
+
+-- so many hits of a pattern in turn
+abbrev pub hits : Series → Pattern → ℕ → ℕ → Progress → Out (Made Progress)
+hits s p count line g = punches (limits s.frame.job) s.frame line p s.start count 0 g
 
 -- the hits of a pattern in turn, and its end
-abbrev pub series : Frame → Pattern → Point → ℕ → Progress → Out (Made Progress)
-series f p start line g = map_after (ending p start) (punches (limits f.job) f line p start (hit_count p) 0 g)
+abbrev pub series : Series → Pattern → ℕ → Progress → Out (Made Progress)
+series s p line g = map_after (ending p s.start) (hits s p (hit_count p) line g)
+
+-- hit k is at a place only where hit k of a pattern lies
+abbrev pub LieAt : (ℕ → WidePoint → Type 0) → Pattern → Point → ℕ → Type 0
+LieAt IsPlace p start count = (k : ℕ) (w : WidePoint) → k < count → IsPlace k w → point_of w ≡ start ⊕ hit_offset p k

@@ -1,5 +1,4 @@
 ghost use Rattle.std.specs.Prelude.{◌≡◌, true, ◌<◌, ◌≤◌, pos, ◌*ℤ◌};
-ghost use Rattle.sine.specs.Series.{Tables};
 ghost use Rattle.lanes.specs.Cursors.{passed};
 ghost use Rattle.aries.specs.WidePoints.{point_of, Moderate};
 ghost use Rattle.aries.specs.Judging.{is_near};
@@ -20,13 +19,9 @@ fn polar_place(start: Point, distance: i32, direction: Direction) -> WidePoint
     ensures result_value { point_of result ≡ start ⊕ toward distance direction }
     ensures moderate { Moderate result }
 {
-    let x = start.x;
-    let y = start.y;
-    let cosine = direction.cosine;
-    let sine = direction.sine;
     WidePoint {
-        x: sine::displaced(x, distance, cosine),
-        y: sine::displaced(y, distance, sine),
+        x: sine::displaced(start.x, distance, direction.cosine),
+        y: sine::displaced(start.y, distance, direction.sine),
     }
 }
 
@@ -41,23 +36,11 @@ pub fn line_place(start: Point, pitch: i32, direction: Direction, n: u16) -> Wid
 }
 
 // The place at a radius from the start and an angle.
-pub fn arc_place(
-    start: Point,
-    radius: i32,
-    angle: i64,
-    degrees: &[u32; 91],
-    sines: &[u32; 100],
-    cosines: &[u32; 100],
-) -> WidePoint
-    requires { Tables degrees.now sines.now cosines.now }
+pub fn arc_place(start: Point, radius: i32, angle: i64) -> WidePoint
     ensures result_value { point_of result ≡ start ⊕ polar radius angle }
     ensures moderate { Moderate result }
 {
-    polar_place(
-        start,
-        radius,
-        sine::direction_of(angle, degrees, sines, cosines),
-    )
+    polar_place(start, radius, sine::direction_of(angle))
 }
 
 // The part k / n of a full turn, to the nearest hundredth of a degree, halves up: all is doubled, so that n is the half.
@@ -65,8 +48,8 @@ fn turned(n: u16, k: u16) -> u16
     requires { k < n }
     ensures { result ≡ turned n k }
 {
-    let parts = n as u64;
-    let done = k as u64;
+    let parts = u64::from(n);
+    let done = u64::from(k);
     ((TWO_TURNS * done + parts) / (2 * parts)) as u16
 }
 
@@ -75,12 +58,8 @@ pub fn circle_angle(angle: i32, clockwise: bool, n: u16, k: u16) -> i64
     requires { k < n }
     ensures { result ≡ circle_angle angle clockwise n k }
 {
-    let turn = turned(n, k);
-    if clockwise {
-        signed::affine(angle, turn, -1)
-    } else {
-        signed::affine(angle, turn, 1)
-    }
+    let side = if clockwise { -1 } else { 1 };
+    signed::affine(angle, turned(n, k), side)
 }
 
 // The place so many columns and rows from the start.
@@ -88,13 +67,9 @@ fn step_place(start: Point, pitch: Point, column: u16, row: u16) -> WidePoint
     ensures result_value { point_of result ≡ start ⊕ point_at (pos column *ℤ pitch.x) (pos row *ℤ pitch.y) }
     ensures moderate { Moderate result }
 {
-    let x = start.x;
-    let y = start.y;
-    let pitch_x = pitch.x;
-    let pitch_y = pitch.y;
     WidePoint {
-        x: signed::affine(x, column, pitch_x),
-        y: signed::affine(y, row, pitch_y),
+        x: signed::affine(start.x, column, pitch.x),
+        y: signed::affine(start.y, row, pitch.y),
     }
 }
 

@@ -1,288 +1,220 @@
-ghost use Rattle.std.specs.Prelude.{◌≡◌, true, pos, ◌*ℤ◌};
-ghost use Rattle.aries.specs.declared.block.Pattern.TheVariants as pattern;
-ghost use Rattle.aries.specs.declared.block.Pattern.TheVariants.{Line, Arc, Circle, Grid};
-ghost use Rattle.aries.specs.Judging.{is_near, limits};
-ghost use Rattle.aries.specs.Moves.{punch};
-ghost use Rattle.aries.specs.Patterns.{reach_is_near, shear_is_fit};
-ghost use Rattle.aries.specs.Shear.{is_fit};
+ghost use Rattle.std.specs.Prelude.{◌≡◌};
 ghost use Rattle.aries.specs.Steady.{Steady};
-ghost use Rattle.aries.specs.WidePoints.{point_of, Moderate};
-ghost use Rattle.aries.specs.Runs.{lent};
-ghost use Rattle.patterns.specs.Series.{Comes, series};
 
 use crate::{places, sizes};
 use aries::block::{Pattern, Shear, Steps};
 use aries::point::{Point, WidePoint};
+use aries::refusal::Refusal;
 use aries::state::Frame;
 use lanes::Cursor;
 use press::hits;
-use press::hits::Judged;
+use press::hits::Tooling;
+use shears::places::Cut;
 
-// What hits are made with: a tool, in mode N (nibble) or P.
+// A series of hits to be made: in a frame, with a tool, from a start on, after so many entries.
 #[derive(Clone, Copy)]
-pub struct Tooling {
-    pub tool: u8,
-    pub nibble: bool,
+pub struct Series {
+    pub frame: Frame,
+    pub tooling: Tooling,
+    pub start: Point,
+    pub entries: usize,
+    ghost steady: { Steady 0 frame },
 }
 
-// How far a series of hits has come: the number of the refusal that ended it, or 0, the last point and the count of entries.
-// With a refusal the point is none that anybody reads.
+// How far a series of hits has come: the last point and the count of entries.
 #[derive(Clone, Copy)]
 pub struct Reached {
-    pub number: u8,
     pub current: Point,
     pub entries: usize,
 }
 
-// One hit more, or its refusal.
-fn punch_next(
-    list: &mut [i32],
-    frame: Frame,
-    tooling: Tooling,
-    place: WidePoint,
-    from: Reached,
-) -> Reached
-    requires steady { Steady 0 frame }
-    requires moderate { Moderate place }
-    ensures { Comes result frame tooling from.current from.entries (lent list.old) (lent list.new) (λ line. punch (limits frame.job) frame line (point_of place)) }
-{
-    let entries = from.entries;
-    let judged = hits::hit(list, frame, place, tooling.tool, tooling.nibble, entries);
-    match judged {
-        Judged::Refused(number) => Reached {
-            number,
-            current: Point { x: 0, y: 0 },
-            entries,
-        },
-        Judged::Made(point) => Reached {
-            number: 0,
-            current: point,
-            entries: entries + 1,
-        },
+impl Reached {
+    // Back at a point, with the same count.
+    fn back_at(mut self, point: Point) -> Reached
+        ensures { result ≡ record { current = point; entries = self.entries } }
+    {
+        self.current = point;
+        self
     }
 }
 
-// The hits of a line.
-fn punch_line(
-    list: &mut [i32],
-    frame: Frame,
-    tooling: Tooling,
-    start: Point,
-    entries: usize,
-    pitch: i32,
-    angle: i32,
-    count: u16,
-) -> Reached
-    requires pitch_value { is_near (pos count *ℤ pitch) ≡ true }
-    requires steady { Steady 0 frame }
-    ensures { Comes result frame tooling start entries (lent list.old) (lent list.new) (series frame (Line pitch angle count) start) }
-{
-    let direction = sine::direction_at(angle);
-    let mut made = Reached {
-        number: 0,
-        current: start,
-        entries,
-    };
-    let mut k = 0;
-    while k < count {
-        k += 1;
-        let place = places::line_place(start, pitch, direction, k);
-        made = punch_next(list, frame, tooling, place, made);
-        if 0 < made.number {
-            return made;
+impl Series {
+    ghost use Rattle.std.specs.Prelude.{true, ◌<◌, ℕ, pos, ◌*ℤ◌};
+    ghost use Rattle.aries.specs.declared.block.Pattern.{Pattern};
+    ghost use Rattle.aries.specs.declared.block.Pattern.TheVariants as pattern;
+    ghost use Rattle.aries.specs.declared.block.Pattern.TheVariants.{Line, Arc, Circle, Grid};
+    ghost use Rattle.aries.specs.declared.point.WidePoint.{WidePoint};
+    ghost use Rattle.aries.specs.Judging.{is_near, limits};
+    ghost use Rattle.aries.specs.Moves.{punch};
+    ghost use Rattle.aries.specs.Patterns.{reach_is_near, shear_is_fit};
+    ghost use Rattle.aries.specs.Shear.{is_fit};
+    ghost use Rattle.aries.specs.WidePoints.{point_of, Moderate};
+    ghost use Rattle.aries.specs.Runs.{lent};
+    ghost use Rattle.patterns.specs.Series.{begun, Comes, LieAt, hits, series};
+
+    // Before the first hit.
+    fn begun(self) -> Reached
+        ensures { result ≡ begun self }
+    {
+        Reached {
+            current: self.start,
+            entries: self.entries,
         }
     }
-    made
-}
 
-// The hits of an arc.
-fn punch_arc(
-    list: &mut [i32],
-    frame: Frame,
-    tooling: Tooling,
-    start: Point,
-    entries: usize,
-    radius: i32,
-    angle: i32,
-    step: i32,
-    count: u16,
-) -> Reached
-    requires { Steady 0 frame }
-    ensures { Comes result frame tooling start entries (lent list.old) (lent list.new) (series frame (Arc radius angle step count) start) }
-{
-    let degrees = sine::degree_sines();
-    let sines = sine::hundredth_sines();
-    let cosines = sine::hundredth_cosines();
-    let mut made = Reached {
-        number: 0,
-        current: start,
-        entries,
-    };
-    let mut k = 0;
-    while k < count {
-        let turned = signed::affine(angle, k, step);
-        let place = places::arc_place(start, radius, turned, &degrees, &sines, &cosines);
-        made = punch_next(list, frame, tooling, place, made);
-        if 0 < made.number {
-            return made;
+    // One hit more, or its refusal.
+    fn punch_next(
+        self,
+        list: &mut [i32],
+        place: WidePoint,
+        from: Reached,
+    ) -> Result<Reached, Refusal>
+        requires { Moderate place }
+        ensures { Comes result self from (lent list.old) (lent list.new) (λ line. punch (limits self.frame.job) self.frame line (point_of place)) }
+    {
+        let current = hits::hit(list, self.frame, self.tooling, place, from.entries)?;
+        Ok(Reached {
+            current,
+            entries: from.entries + 1,
+        })
+    }
+
+    // So many hits in turn, up to the first refusal, by where hit k lies.
+    fn punch_each<F: Fn(u32) -> WidePoint>(
+        self,
+        list: &mut [i32],
+        count: u32,
+        place: F,
+    ) -> Result<Reached, Refusal>
+        requires callable { (k : ℕ) → k < count → F.pre place k }
+        requires moderate { (k : ℕ) (w : WidePoint) → k < count → F.post place k w → Moderate w }
+        ensures { (p : Pattern) → LieAt (F.post place) p self.start count → Comes result self (begun self) (lent list.old) (lent list.new) (hits self p count) }
+    {
+        let mut reached = self.begun();
+        for k in 0..count {
+            reached = self.punch_next(list, place(k), reached)?;
         }
-        k += 1;
+        Ok(reached)
     }
-    made
-}
 
-// The hits of a circle, which ends at its start.
-fn punch_circle(
-    list: &mut [i32],
-    frame: Frame,
-    tooling: Tooling,
-    start: Point,
-    entries: usize,
-    radius: i32,
-    angle: i32,
-    clockwise: bool,
-    count: u16,
-) -> Reached
-    requires { Steady 0 frame }
-    ensures { Comes result frame tooling start entries (lent list.old) (lent list.new) (series frame (Circle radius angle clockwise count) start) }
-{
-    let degrees = sine::degree_sines();
-    let sines = sine::hundredth_sines();
-    let cosines = sine::hundredth_cosines();
-    let mut made = Reached {
-        number: 0,
-        current: start,
-        entries,
-    };
-    let mut k = 0;
-    while k < count {
-        let turned = places::circle_angle(angle, clockwise, count, k);
-        let place = places::arc_place(start, radius, turned, &degrees, &sines, &cosines);
-        made = punch_next(list, frame, tooling, place, made);
-        if 0 < made.number {
-            return made;
+    // The hits of a line.
+    fn punch_line(
+        self,
+        list: &mut [i32],
+        pitch: i32,
+        angle: i32,
+        count: u16,
+    ) -> Result<Reached, Refusal>
+        requires { is_near (pos count *ℤ pitch) ≡ true }
+        ensures { Comes result self (begun self) (lent list.old) (lent list.new) (series self (Line pitch angle count)) }
+    {
+        let start = self.start;
+        let direction = sine::direction_of(i64::from(angle));
+        self.punch_each(list, u32::from(count), |k| {
+            places::line_place(start, pitch, direction, (k + 1) as u16)
+        })
+    }
+
+    // The hits of an arc.
+    fn punch_arc(
+        self,
+        list: &mut [i32],
+        radius: i32,
+        angle: i32,
+        step: i32,
+        count: u16,
+    ) -> Result<Reached, Refusal>
+        ensures { Comes result self (begun self) (lent list.old) (lent list.new) (series self (Arc radius angle step count)) }
+    {
+        let start = self.start;
+        self.punch_each(list, u32::from(count), |k| {
+            places::arc_place(start, radius, signed::affine(angle, k as u16, step))
+        })
+    }
+
+    // The hits of a circle, which ends at its start.
+    fn punch_circle(
+        self,
+        list: &mut [i32],
+        radius: i32,
+        angle: i32,
+        clockwise: bool,
+        count: u16,
+    ) -> Result<Reached, Refusal>
+        ensures { Comes result self (begun self) (lent list.old) (lent list.new) (series self (Circle radius angle clockwise count)) }
+    {
+        let start = self.start;
+        let circle = self.punch_each(list, u32::from(count), |k| {
+            let turned = places::circle_angle(angle, clockwise, count, k as u16);
+            places::arc_place(start, radius, turned)
+        })?;
+        Ok(circle.back_at(start))
+    }
+
+    // The hits of a grid, lane by lane. Not through `punch_each`: by its number alone, a hit's lane would take a division.
+    fn punch_grid(
+        self,
+        list: &mut [i32],
+        vertical: bool,
+        pitch: Point,
+        steps: Steps,
+    ) -> Result<Reached, Refusal>
+        ensures { Comes result self (begun self) (lent list.old) (lent list.new) (series self (Grid vertical pitch steps)) }
+    {
+        let count = sizes::grid_hits(steps);
+        let last = sizes::lane_end(vertical, steps);
+        let mut reached = self.begun();
+        let mut cursor = Cursor::first();
+        for k in 0..count {
+            cursor = cursor.next(last);
+            let place = places::grid_place(self.start, vertical, pitch, steps, cursor);
+            reached = self.punch_next(list, place, reached)?;
         }
-        k += 1;
+        Ok(reached)
     }
-    made.current = start;
-    made
-}
 
-// The hits of a grid, lane by lane.
-fn punch_grid(
-    list: &mut [i32],
-    frame: Frame,
-    tooling: Tooling,
-    start: Point,
-    entries: usize,
-    vertical: bool,
-    pitch: Point,
-    steps: Steps,
-) -> Reached
-    requires { Steady 0 frame }
-    ensures { Comes result frame tooling start entries (lent list.old) (lent list.new) (series frame (Grid vertical pitch steps) start) }
-{
-    let count = sizes::grid_hits(steps);
-    let last = sizes::lane_end(vertical, steps);
-    let mut made = Reached {
-        number: 0,
-        current: start,
-        entries,
-    };
-    let mut cursor = Cursor::first();
-    let mut k = 0;
-    while k < count {
-        cursor = cursor.next(last);
-        let place = places::grid_place(start, vertical, pitch, steps, cursor);
-        made = punch_next(list, frame, tooling, place, made);
-        if 0 < made.number {
-            return made;
-        }
-        k += 1;
+    // The hits of a G66, which ends at its start.
+    fn punch_shear(self, list: &mut [i32], angle: u16, lengths: Shear) -> Result<Reached, Refusal>
+        requires { is_fit lengths ≡ true }
+        ensures { Comes result self (begun self) (lent list.old) (lent list.new) (series self (pattern.Shear angle lengths)) }
+    {
+        let start = self.start;
+        let cut = Cut::prepare(angle, lengths);
+        let edge = self.punch_each(list, cut.hits, |k| cut.place(start, k))?;
+        Ok(edge.back_at(start))
     }
-    made
-}
 
-// The hits of a G66, which ends at its start.
-fn punch_shear(
-    list: &mut [i32],
-    frame: Frame,
-    tooling: Tooling,
-    start: Point,
-    entries: usize,
-    angle: u16,
-    shear: Shear,
-) -> Reached
-    requires shear_value { is_fit shear ≡ true }
-    requires steady { Steady 0 frame }
-    ensures { Comes result frame tooling start entries (lent list.old) (lent list.new) (series frame (pattern.Shear angle shear) start) }
-{
-    let cut = shears::places::prepare(angle, shear);
-    let count = cut.hits;
-    let mut made = Reached {
-        number: 0,
-        current: start,
-        entries,
-    };
-    let mut k = 0;
-    while k < count {
-        let place = shears::places::place(start, cut, k);
-        made = punch_next(list, frame, tooling, place, made);
-        if 0 < made.number {
-            return made;
-        }
-        k += 1;
-    }
-    Reached {
-        number: 0,
-        current: start,
-        entries: made.entries,
-    }
-}
-
-// The hits of a pattern in turn, up to the first refusal.
-pub fn punch_series(
-    list: &mut [i32],
-    frame: Frame,
-    tooling: Tooling,
-    start: Point,
-    entries: usize,
-    pattern: Pattern,
-) -> Reached
-    requires pattern_value { reach_is_near pattern ≡ true }
-    requires pattern_value_2 { shear_is_fit pattern ≡ true }
-    requires steady { Steady 0 frame }
-    ensures { Comes result frame tooling start entries (lent list.old) (lent list.new) (series frame pattern start) }
-{
-    match pattern {
-        Pattern::Line {
-            pitch,
-            angle,
-            count,
-        } => punch_line(list, frame, tooling, start, entries, pitch, angle, count),
-        Pattern::Arc {
-            radius,
-            angle,
-            step,
-            count,
-        } => punch_arc(
-            list, frame, tooling, start, entries, radius, angle, step, count,
-        ),
-        Pattern::Circle {
-            radius,
-            angle,
-            clockwise,
-            count,
-        } => punch_circle(
-            list, frame, tooling, start, entries, radius, angle, clockwise, count,
-        ),
-        Pattern::Grid {
-            vertical,
-            pitch,
-            steps,
-        } => punch_grid(list, frame, tooling, start, entries, vertical, pitch, steps),
-        Pattern::Shear { angle, lengths } => {
-            punch_shear(list, frame, tooling, start, entries, angle, lengths)
+    // The hits of a pattern in turn, up to the first refusal.
+    #[tactic(auto, unfolding(aries::specs::Patterns::reach_is_near, aries::specs::Patterns::shear_is_fit))]
+    pub fn punch_pattern(self, list: &mut [i32], pattern: Pattern) -> Result<Reached, Refusal>
+        requires near { reach_is_near pattern ≡ true }
+        requires fit { shear_is_fit pattern ≡ true }
+        ensures { Comes result self (begun self) (lent list.old) (lent list.new) (series self pattern) }
+    {
+        match pattern {
+            Pattern::Line {
+                pitch,
+                angle,
+                count,
+            } => self.punch_line(list, pitch, angle, count),
+            Pattern::Arc {
+                radius,
+                angle,
+                step,
+                count,
+            } => self.punch_arc(list, radius, angle, step, count),
+            Pattern::Circle {
+                radius,
+                angle,
+                clockwise,
+                count,
+            } => self.punch_circle(list, radius, angle, clockwise, count),
+            Pattern::Grid {
+                vertical,
+                pitch,
+                steps,
+            } => self.punch_grid(list, vertical, pitch, steps),
+            Pattern::Shear { angle, lengths } => self.punch_shear(list, angle, lengths),
         }
     }
 }

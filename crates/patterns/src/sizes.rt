@@ -10,8 +10,8 @@ use aries::point;
 pub fn grid_hits(steps: Steps) -> u32
     ensures { result ≡ suc steps.x * suc steps.y - 1 }
 {
-    let columns = steps.x as u64 + 1;
-    let rows = steps.y as u64 + 1;
+    let columns = u64::from(steps.x) + 1;
+    let rows = u64::from(steps.y) + 1;
     (columns * rows - 1) as u32
 }
 
@@ -31,35 +31,29 @@ fn is_near(count: u16, pitch: i32) -> bool
 
 // Whether the farthest distance of a line, or the sides of a grid, stay within the largest coordinate. Other patterns have
 // no reach.
+#[tactic(auto, unfolding(aries::specs::Patterns::reach_is_near))]
 pub fn reach_is_near(pattern: Pattern) -> bool
     ensures { result ≡ reach_is_near pattern }
 {
     match pattern {
         Pattern::Line { pitch, count, .. } => is_near(count, pitch),
-        Pattern::Arc { .. } => true,
-        Pattern::Circle { .. } => true,
         Pattern::Grid { pitch, steps, .. } => {
-            let x = pitch.x;
-            let y = pitch.y;
-            if is_near(steps.x, x) {
-                is_near(steps.y, y)
-            } else {
-                false
-            }
+            is_near(steps.x, pitch.x) && is_near(steps.y, pitch.y)
         }
-        Pattern::Shear { .. } => true,
+        Pattern::Arc { .. } | Pattern::Circle { .. } | Pattern::Shear { .. } => true,
     }
 }
 
 // Whether the numbers of a G66 fit together; other patterns have none that have to.
+#[tactic(auto, unfolding(aries::specs::Patterns::shear_is_fit))]
 pub fn shear_is_fit(pattern: Pattern) -> bool
     ensures { result ≡ shear_is_fit pattern }
 {
     match pattern {
-        Pattern::Line { .. } => true,
-        Pattern::Arc { .. } => true,
-        Pattern::Circle { .. } => true,
-        Pattern::Grid { .. } => true,
         Pattern::Shear { lengths, .. } => shears::numbers::is_fit(lengths),
+        Pattern::Line { .. }
+        | Pattern::Arc { .. }
+        | Pattern::Circle { .. }
+        | Pattern::Grid { .. } => true,
     }
 }

@@ -1,10 +1,8 @@
 -- The places of a layout, lane by lane and by its corners.
-use Rattle.std.specs.Prelude.{Bool, cond, ◌&&◌, ℕ, ◌-◌}
+use Rattle.std.specs.Prelude.{Bool, cond, ◌&&◌, ℕ, ◌-◌, None, Option, Some}
 use Rattle.aries.specs.declared.block.Copies.{Copies}
 use Rattle.aries.specs.declared.block.Layout.{Layout}
 use Rattle.aries.specs.declared.point.Point.{Point}
-use Rattle.aries.specs.declared.point.Located.{Located}
-use Rattle.aries.specs.declared.point.Located.TheVariants.{At, TooFar}
 use Rattle.aries.specs.Judging.{near}
 use Rattle.aries.specs.Layouts.{copy_count, place_at, copy_place}
 
@@ -29,5 +27,5 @@ abbrev pub all_near : Point → Layout → Bool
 all_near o l = near (cell o l 0 0) && near (cell o l l.steps.x l.steps.y)
 
 -- the last copy's place, where 15 refuses none
-abbrev pub last_copy : Point → Layout → Copies → Located
-last_copy o l c = cond (all_near o l) (At (copy_place o l c (copy_count l - 1))) TooFar
+abbrev pub last_copy : Point → Layout → Copies → Option Point
+last_copy o l c = cond (all_near o l) (Some (copy_place o l c (copy_count l - 1))) None

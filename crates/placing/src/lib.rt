@@ -9,7 +9,7 @@ ghost use Rattle.lanes.specs.Cursors.{passed};
 ghost use Rattle.placing.specs.Places.{lane_end, last_lane, all_near, last_copy};
 
 use aries::block::{Copies, Layout};
-use aries::point::{Located, Point, WidePoint};
+use aries::point::{Point, WidePoint};
 use lanes::Cursor;
 
 // The corners, by Q.
@@ -21,54 +21,18 @@ const UPPER_LEFT: u8 = 3;
 
 const UPPER_RIGHT: u8 = 4;
 
-// How many places a layout has.
-pub fn copy_count(layout: Layout) -> u64
-    ensures { result ≡ copy_count layout }
-{
-    let steps = layout.steps;
-    ((steps.x as u64) + 1) * ((steps.y as u64) + 1)
-}
-
-// The last place of a lane: of a row, or for G76 of a column.
-pub fn lane_end(layout: Layout, copies: Copies) -> u16
-    ensures { result ≡ lane_end layout copies }
-{
-    let steps = layout.steps;
-    if copies.vertical { steps.y } else { steps.x }
-}
-
-// The last lane.
-fn last_lane(layout: Layout, copies: Copies) -> u32
-    ensures { result ≡ last_lane layout copies }
-{
-    let steps = layout.steps;
-    if copies.vertical {
-        steps.x as u32
-    } else {
-        steps.y as u32
-    }
-}
-
 // Whether the first place is at the right.
 fn from_right(corner: u8) -> bool
     ensures { result ≡ from_right corner }
 {
-    if corner == LOWER_RIGHT {
-        true
-    } else {
-        corner == UPPER_RIGHT
-    }
+    matches!(corner, LOWER_RIGHT | UPPER_RIGHT)
 }
 
 // Whether the first place is at the top.
 fn from_top(corner: u8) -> bool
     ensures { result ≡ from_top corner }
 {
-    if corner == UPPER_LEFT {
-        true
-    } else {
-        corner == UPPER_RIGHT
-    }
+    matches!(corner, UPPER_LEFT | UPPER_RIGHT)
 }
 
 // A coordinate of a place: so many pitches from the origin, counted from the near end or from the far one.
@@ -76,76 +40,110 @@ fn coordinate(origin: i32, far: bool, last: u16, n: u16, pitch: u32) -> i64
     requires { n ≤ last }
     ensures { result ≡ origin +ℤ pos (facing far last n * pitch) }
 {
-    if far {
-        signed::scaled(origin, last - n, pitch)
-    } else {
-        signed::scaled(origin, n, pitch)
-    }
-}
-
-// The place of a column and a row, counted from the corner where the run starts.
-fn place_at(origin: Point, layout: Layout, corner: u8, column: u16, row: u16) -> WidePoint
-    requires { (column ≤ layout.steps.x) × (row ≤ layout.steps.y) }
-    ensures { point_of result ≡ place_at origin layout corner column row }
-{
-    let steps = layout.steps;
-    let pitch = layout.pitch;
-    WidePoint {
-        x: coordinate(origin.x, from_right(corner), steps.x, column, pitch.x),
-        y: coordinate(origin.y, from_top(corner), steps.y, row, pitch.y),
-    }
-}
-
-// The place of the copy that a cursor stands at. Lanes are rows, or for G76 columns.
-pub fn copy_place(origin: Point, layout: Layout, copies: Copies, cursor: Cursor) -> WidePoint
-    requires { (cursor.rest ≤ lane_end layout copies) × (cursor.lane ≤ last_lane layout copies) }
-    ensures { point_of result ≡ copy_place origin layout copies (passed (lane_end layout copies) cursor) }
-{
-    let corner = copies.corner;
-    let last = lane_end(layout, copies);
-    let lane = cursor.lane as u16;
-    let along = cursor.along(last);
-    if copies.vertical {
-        place_at(origin, layout, corner, lane, along)
-    } else {
-        place_at(origin, layout, corner, along, lane)
-    }
+    let steps = if far { last - n } else { n };
+    signed::scaled(origin, steps, pitch)
 }
 
 // Whether 15 lets a place pass.
 fn is_near(place: WidePoint) -> bool
     ensures { result ≡ near (point_of place) }
 {
-    let located = place.located();
-    match located {
-        Located::At(_) => true,
-        Located::TooFar => false,
-    }
+    place.located().is_some()
 }
 
-// Whether all places are near: the lower left one and the upper right one are, and the others lie between them.
-fn all_near(origin: Point, layout: Layout) -> bool
-    ensures { result ≡ all_near origin layout }
-{
-    let steps = layout.steps;
-    if is_near(place_at(origin, layout, LOWER_LEFT, 0, 0)) {
-        is_near(place_at(origin, layout, LOWER_LEFT, steps.x, steps.y))
-    } else {
-        false
-    }
+// The places of a layout from an origin on, as a G75 or G76 block goes through them.
+#[derive(Clone, Copy)]
+pub struct Places {
+    pub origin: Point,
+    pub layout: Layout,
+    pub copies: Copies,
 }
 
-// The place of the last copy, if all places are near.
-pub fn last_copy(origin: Point, layout: Layout, copies: Copies) -> Located
-    ensures { result ≡ last_copy origin layout copies }
-{
-    if all_near(origin, layout) {
-        let last = Cursor {
-            lane: last_lane(layout, copies),
-            rest: lane_end(layout, copies),
+impl Places {
+    // How many they are.
+    #[tactic(auto, using(crate::proofs::CopyPlace::count_fits))]
+    pub fn copy_count(self) -> u64
+        ensures { result ≡ copy_count self.layout }
+    {
+        let steps = self.layout.steps;
+        (u64::from(steps.x) + 1) * (u64::from(steps.y) + 1)
+    }
+
+    // The last place of a lane: of a row, or for G76 of a column.
+    pub fn lane_end(self) -> u16
+        ensures { result ≡ lane_end self.layout self.copies }
+    {
+        let steps = self.layout.steps;
+        if self.copies.vertical {
+            steps.y
+        } else {
+            steps.x
+        }
+    }
+
+    // The last lane.
+    fn last_lane(self) -> u32
+        ensures { result ≡ last_lane self.layout self.copies }
+    {
+        let steps = self.layout.steps;
+        let last = if self.copies.vertical {
+            steps.x
+        } else {
+            steps.y
         };
-        copy_place(origin, layout, copies, last).located()
-    } else {
-        Located::TooFar
+        u32::from(last)
+    }
+
+    // The place of a column and a row, counted from a corner.
+    fn place_at(self, corner: u8, column: u16, row: u16) -> WidePoint
+        requires { (column ≤ self.layout.steps.x) × (row ≤ self.layout.steps.y) }
+        ensures { point_of result ≡ place_at self.origin self.layout corner column row }
+    {
+        let steps = self.layout.steps;
+        let pitch = self.layout.pitch;
+        WidePoint {
+            x: coordinate(self.origin.x, from_right(corner), steps.x, column, pitch.x),
+            y: coordinate(self.origin.y, from_top(corner), steps.y, row, pitch.y),
+        }
+    }
+
+    // The place of the copy that a cursor stands at. Lanes are rows, or for G76 columns.
+    #[tactic(auto, using(crate::proofs::CopyPlace::place_vertical, crate::proofs::CopyPlace::place_level, aries::proofs::Lanes::along_bound))]
+    pub fn copy_place(self, cursor: Cursor) -> WidePoint
+        requires { (cursor.rest ≤ lane_end self.layout self.copies) × (cursor.lane ≤ last_lane self.layout self.copies) }
+        ensures { point_of result ≡ copy_place self.origin self.layout self.copies (passed (lane_end self.layout self.copies) cursor) }
+    {
+        let corner = self.copies.corner;
+        let lane = cursor.lane as u16;
+        let along = cursor.along(self.lane_end());
+        if self.copies.vertical {
+            self.place_at(corner, lane, along)
+        } else {
+            self.place_at(corner, along, lane)
+        }
+    }
+
+    // Whether all are near: the lower left one and the upper right one are, and the others lie between them.
+    fn all_near(self) -> bool
+        ensures { result ≡ all_near self.origin self.layout }
+    {
+        let steps = self.layout.steps;
+        is_near(self.place_at(LOWER_LEFT, 0, 0))
+            && is_near(self.place_at(LOWER_LEFT, steps.x, steps.y))
+    }
+
+    // The place of the last copy, if all places are near.
+    pub fn last_copy(self) -> Option<Point>
+        ensures { result ≡ last_copy self.origin self.layout self.copies }
+    {
+        if self.all_near() {
+            let last = Cursor {
+                lane: self.last_lane(),
+                rest: self.lane_end(),
+            };
+            self.copy_place(last).located()
+        } else {
+            None
+        }
     }
 }

@@ -1,2 +1,4 @@
+pub mod Ends
 pub mod Enter
+pub mod InLine
 pub mod Punch

@@ -1,4 +1,5 @@
 ghost use Rattle.std.specs.Prelude.{◌≡◌, cond};
+ghost use Rattle.aries.specs.declared.refusal.Refusal.TheVariants.{TooFar, OutOfRange};
 ghost use Rattle.aries.specs.Judging.{near};
 ghost use Rattle.aries.specs.Moves.{punch};
 ghost use Rattle.aries.specs.Steady.{Steady};
@@ -8,62 +9,56 @@ ghost use Rattle.press.specs.Hits.{judged_hit, list_after};
 
 use crate::entries::enter;
 use aries::entry::{Entry, Hit};
-use aries::point::{Located, Point, WidePoint};
-use aries::refusal;
-use aries::state::{Frame, Outcome, Progress};
+use aries::point::{Point, WidePoint};
+use aries::refusal::{Refusal, Refused};
+use aries::state::{Frame, Progress};
 
-// What is judged of a hit: it is made, and this point becomes the current one, or it is refused by a number.
+// What hits are made with: a tool, where 0 is none chosen, in mode N (nibble) or P.
 #[derive(Clone, Copy)]
-pub enum Judged {
-    Made(Point),
-    Refused(u8),
+pub struct Tooling {
+    pub tool: u8,
+    pub nibble: bool,
 }
 
 // The refusal of a place that is out of the punching range: 15 where it is too far away, else 16.
-pub fn out_of_range(place: WidePoint) -> u8
-    ensures { result ≡ cond (near (point_of place)) 16 15 }
+pub fn out_of_range(place: WidePoint) -> Refusal
+    ensures { result ≡ cond (near (point_of place)) OutOfRange TooFar }
 {
-    let located = place.located();
-    match located {
-        Located::At(_) => refusal::OUT_OF_RANGE,
-        Located::TooFar => refusal::TOO_FAR,
+    match place.located() {
+        Some(_) => Refusal::OutOfRange,
+        None => Refusal::TooFar,
     }
 }
 
-// Makes a hit with a tool in a mode, after so many entries, or refuses it. It is made, and judged by 15 and 16, where the
-// place is seen after all mirrors. The range is judged first: it lies within the limit of 15, so that 15 and 16 are told apart
-// only where it is left.
+// Makes a hit with a tool in a mode, after so many entries, and answers the point that becomes the current one; or refuses it.
+// It is made, and judged by 15 and 16, where the place is seen after all mirrors. The range is judged first: it lies within the
+// limit of 15, so that 15 and 16 are told apart only where it is left.
 pub fn hit(
     list: &mut [i32],
     frame: Frame,
+    tooling: Tooling,
     place: WidePoint,
-    tool: u8,
-    nibble: bool,
     entries: usize,
-) -> Judged
+) -> Result<Point, Refusal>
     requires steady { Steady 0 frame }
     requires moderate { Moderate place }
-    ensures { (result ≡ judged_hit frame (point_of place) tool entries) × (lent list.new ≡ list_after frame result (lent list.old) entries tool nibble) }
+    ensures { (result ≡ judged_hit frame (point_of place) tooling.tool entries) × (lent list.new ≡ list_after frame result (lent list.old) entries tooling.tool tooling.nibble) }
 {
-    let job = frame.job;
-    if tool == 0 {
-        return Judged::Refused(refusal::NO_TOOL);
+    if tooling.tool == 0 {
+        return Err(Refusal::NoTool);
     }
     let seen = frame.seen(place);
     if !frame.covers(seen) {
-        return Judged::Refused(out_of_range(seen));
+        return Err(out_of_range(seen));
     }
     let point = place.narrow();
-    let spot = seen.narrow();
     let made = Hit {
-        place: spot,
-        tool,
-        nibble,
+        place: seen.narrow(),
+        tool: tooling.tool,
+        nibble: tooling.nibble,
     };
-    if !enter(list, job, Entry::Hit(made), entries) {
-        return Judged::Refused(refusal::LIST_FULL);
-    }
-    Judged::Made(point)
+    enter(list, frame.job, Entry::Hit(made), entries)?;
+    Ok(point)
 }
 
 // Makes a hit with the state's tool and mode; the place, as it is before mirrors, becomes the current point.
@@ -73,20 +68,21 @@ pub fn punch(
     line: u64,
     place: WidePoint,
     progress: Progress,
-) -> Outcome
+) -> Result<Progress, Refused>
     requires steady { Steady 0 frame }
     requires moderate { Moderate place }
     ensures { Carried result frame (lent list.old) (lent list.new) progress (λ j. punch j frame line (point_of place)) }
 {
     let state = progress.state;
-    let entries = progress.entries;
-    let judged = hit(list, frame, place, state.tool, state.nibble, entries);
-    match judged {
-        Judged::Refused(number) => Outcome::refused(number, line, progress),
-        Judged::Made(current) => Outcome::passed(Progress {
-            state: state.moved_to(current),
-            blocks: progress.blocks,
-            entries: entries + 1,
-        }),
-    }
+    let tooling = Tooling {
+        tool: state.tool,
+        nibble: state.nibble,
+    };
+    let judged = hit(list, frame, tooling, place, progress.entries);
+    let current = judged.map_err(|refusal| refusal.at(line))?;
+    Ok(Progress {
+        state: state.moved_to(current),
+        blocks: progress.blocks,
+        entries: progress.entries + 1,
+    })
 }

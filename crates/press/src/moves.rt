@@ -6,25 +6,23 @@ ghost use Rattle.aries.specs.Steady.{Steady};
 ghost use Rattle.aries.specs.Runs.{Lent, lent, Carried};
 
 use crate::hits;
-use aries::block::{Axes, Axis};
-use aries::point::{Located, WidePoint};
-use aries::refusal;
-use aries::state::{Frame, Outcome, Progress, State};
+use aries::block::Axes;
+use aries::point::WidePoint;
+use aries::refusal::{Refusal, Refused};
+use aries::state::{Frame, Progress, State};
 
 // One axis of a position: an omitted one stays, else it is measured from the origin or, under G91, from the current
 // point.
-fn axis_target(axis: Axis, incremental: bool, origin: i32, current: i32) -> i64
-    ensures value { result ≡ axis_target axis incremental origin current }
+fn axis_target(value: Option<i32>, incremental: bool, origin: i32, current: i32) -> i64
+    ensures value { result ≡ axis_target value incremental origin current }
     ensures result_bound { nat_abs result ≤ wide_limit }
 {
-    let value = axis.value;
-    if !axis.written {
-        return signed::widen(current);
-    }
-    if incremental {
-        signed::sum(current, value)
-    } else {
-        signed::sum(origin, value)
+    match value {
+        None => i64::from(current),
+        Some(value) => {
+            let from = if incremental { current } else { origin };
+            signed::sum(from, value)
+        }
     }
 }
 
@@ -33,15 +31,11 @@ fn target(frame: Frame, state: State, axes: Axes) -> WidePoint
     ensures result_value { point_of result ≡ target frame state axes }
     ensures moderate { Moderate result }
 {
-    let x = axes.x;
-    let y = axes.y;
-    let origin_x = frame.origin.x;
-    let origin_y = frame.origin.y;
-    let current_x = state.current.x;
-    let current_y = state.current.y;
+    let origin = frame.origin;
+    let current = state.current;
     WidePoint {
-        x: axis_target(x, state.incremental, origin_x, current_x),
-        y: axis_target(y, state.incremental, origin_y, current_y),
+        x: axis_target(axes.x, state.incremental, origin.x, current.x),
+        y: axis_target(axes.y, state.incremental, origin.y, current.y),
     }
 }
 
@@ -53,7 +47,7 @@ pub fn position(
     axes: Axes,
     tool: u8,
     progress: Progress,
-) -> Outcome
+) -> Result<Progress, Refused>
     requires { Steady 0 frame }
     ensures { Carried result frame (lent list.old) (lent list.new) progress (λ j. position j frame line axes tool) }
 {
@@ -66,7 +60,13 @@ pub fn position(
 
 // A position block with G70: a move to the place that it names, whatever is lent. It is judged by 15 and 16 where the place
 // is seen after all mirrors.
-pub fn move_to(frame: Frame, line: u64, axes: Axes, tool: u8, progress: Progress) -> Outcome
+pub fn move_to(
+    frame: Frame,
+    line: u64,
+    axes: Axes,
+    tool: u8,
+    progress: Progress,
+) -> Result<Progress, Refused>
     requires { Steady 0 frame }
     ensures { (l : Lent) → Carried result frame l l progress (λ j. move j frame line axes tool) }
 {
@@ -74,26 +74,26 @@ pub fn move_to(frame: Frame, line: u64, axes: Axes, tool: u8, progress: Progress
     let place = target(frame, state, axes);
     let seen = frame.seen(place);
     if !frame.covers(seen) {
-        return Outcome::refused(hits::out_of_range(seen), line, progress);
+        return Err(hits::out_of_range(seen).at(line));
     }
     let end = place.narrow();
     let chosen = state.choosing(tool);
-    let dropped = chosen.dropping();
-    Outcome::passed(progress.with_state(dropped.moved_to(end)))
+    Ok(progress.with_state(chosen.standing_at(end)))
 }
 
 // G72: the place that it names waits as the origin of the next pattern, whatever is lent.
-pub fn set_pattern_origin(frame: Frame, line: u64, axes: Axes, progress: Progress) -> Outcome
+pub fn set_pattern_origin(
+    frame: Frame,
+    line: u64,
+    axes: Axes,
+    progress: Progress,
+) -> Result<Progress, Refused>
     ensures { (l : Lent) → Carried result frame l l progress (λ j. set_pattern_origin j frame line axes) }
 {
     let state = progress.state;
     let place = target(frame, state, axes);
-    let located = place.located();
-    match located {
-        Located::TooFar => Outcome::refused(refusal::TOO_FAR, line, progress),
-        Located::At(origin) => {
-            let waiting = state.waiting_at(origin);
-            Outcome::passed(progress.with_state(waiting))
-        }
+    match place.located() {
+        Some(origin) => Ok(progress.with_state(state.waiting_at(origin))),
+        None => Err(Refusal::TooFar.at(line)),
     }
 }

@@ -1,3 +1,2 @@
-pub mod Buffers
 pub mod Decimals
 pub mod Lines

@@ -1,18 +1,13 @@
 -- Laws of lines in order. Assumes nothing.
-use mathlib.Core.Path.{◌≡◌, refl}
-use mathlib.Core.List.{List, [], ◌++◌}
-use Prim.Native.Nat.{ℕ, zero, suc, ◌-◌, ◌≤◌, ◌<◌}
-use native.Mathlib.Omega.{arith}
+use Rattle.std.proofs.Common.{◌≡◌, ap, ◌∙◌, List, ◌++◌, ℕ, ◌+◌}
+use Rattle.std.proofs.lemmas.List.{append_assoc}
+use native.Mathlib.Numerals.{add-one}
 use Rattle.printing.specs.Listing.{lines_of}
 
--- the last line, and those before it
-pub last_line : (line : ℕ → List ℕ) (n : ℕ) → 0 < n → lines_of line n ≡ lines_of line (n - 1) ++ line (n - 1)
+-- one line more
+pub one_more :
+    (line : ℕ → List ℕ) (n : ℕ) (before : List ℕ) {page after : List ℕ}
+    → page ≡ before ++ lines_of line n → after ≡ page ++ line n
+    → after ≡ before ++ lines_of line (n + 1)
 unfolding lines_of
-last_line line zero h = absurd (omega arith)
-last_line line (suc n) h = let e : suc n - 1 ≡ n = omega arith in rw e
-
--- no line
-pub no_line : (line : ℕ → List ℕ) (n : ℕ) → n ≤ 0 → lines_of line n ≡ []
-unfolding lines_of
-no_line line zero h = refl
-no_line line (suc n) h = absurd (omega arith)
+one_more line n before p q = rw add-one (q ∙ ap (λ l. l ++ line n) p ∙ append_assoc before (lines_of line n) (line n))

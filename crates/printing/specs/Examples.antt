@@ -1,20 +1,15 @@
 -- What is printed: M1 of document 01 from its text on, with the tools of document 02, and a refusal; and what these do not show, a
 -- number below zero, mode N and no entry. M00 and M01 of document 02, and tools in turn, from texts on.
-use Rattle.std.specs.Prelude.{◌≡◌, List, [], ◌∷◌, ℕ, pos, negsuc}
-use Rattle.aries.specs.declared.answer.Answer.TheVariants.{Entries, Refused}
-use Rattle.aries.specs.Outcome.{Out}
-use Rattle.aries.specs.declared.entry.Entry.{Entry}
+use Rattle.std.specs.Prelude.{◌≡◌, [], ◌∷◌, pos, negsuc, Ok}
+use Rattle.aries.specs.declared.refusal.Refusal.TheVariants.{OutOfRange}
+use Rattle.aries.specs.Outcome.{refused}
 use Rattle.aries.specs.Plates.{numbers}
-use Rattle.aries.specs.Program.{answer_of, expand, list_of, tally_for}
+use Rattle.aries.specs.Program.{expand}
 use Rattle.aries.specs.Tally.{no_tally}
 use Rattle.aries.specs.Text.{bytes}
-use Rattle.printing.specs.Listing.{listing}
+use Rattle.printing.specs.Listing.{listing, printed}
 
 -- ---- M1
-
--- the listing of what a text comes to, with a lent list of so many numbers
-abbrev pub printed : ℕ → Out (List Entry) → List ℕ
-printed numbers out = listing (answer_of out) (list_of numbers out) (tally_for out)
 
 -- its four lines, at setting 1 and with the list that the program hitlist lends
 abbrev pub PlatePrinted : Type 0
@@ -45,6 +40,6 @@ pub record ToolsPrinted : Type 0 where
 -- ---- Other listings
 
 pub record Examples : Type 0 where
-  pub refused : listing (Refused 16 3) [] no_tally ≡ bytes "REFUSED 16 LINE 3\n"
-  pub nibbled : listing (Entries 1) (negsuc 1019 ∷ pos 0 ∷ pos 1 ∷ pos 1 ∷ []) (1 ∷ 1 ∷ 1 ∷ []) ≡ bytes "ENTRIES 1\n1 -1020 0 1 N\n1 1 1 1\n"
-  pub empty : listing (Entries 0) [] no_tally ≡ bytes "ENTRIES 0\n"
+  pub refusal : listing (refused OutOfRange 3) [] no_tally ≡ bytes "REFUSED 16 LINE 3\n"
+  pub nibbled : listing (Ok 1) (negsuc 1019 ∷ pos 0 ∷ pos 1 ∷ pos 1 ∷ []) (1 ∷ 1 ∷ 1 ∷ []) ≡ bytes "ENTRIES 1\n1 -1020 0 1 N\n1 1 1 1\n"
+  pub empty : listing (Ok 0) [] no_tally ≡ bytes "ENTRIES 0\n"

@@ -1,4 +1,3 @@
-pub mod Buffers
 pub mod Decimals
 pub mod Listing
 pub mod Examples

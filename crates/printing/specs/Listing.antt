@@ -1,11 +1,11 @@
 -- The listing of an answer, its entries and its tally. (Document 01, "The program hitlist"; document 02, §3 and §4.)
-use Rattle.std.specs.Prelude.{cond, List, [], ◌∷◌, ◌++◌, ℕ, zero, suc, ◌+◌, ◌*◌, ltb, ℤ, pos, get_or}
+use Rattle.std.specs.Prelude.{cond, List, [], ◌∷◌, ◌++◌, ℕ, zero, suc, ◌+◌, ◌*◌, ltb, ℤ, pos, get_or, Ok, Err}
 use Rattle.signed.specs.Signed.{eq_z}
-use Rattle.aries.specs.declared.answer.Answer.{Answer}
-use Rattle.aries.specs.declared.answer.Answer.TheVariants.{Entries, Refused}
+use Rattle.aries.specs.declared.entry.Entry.{Entry}
 use Rattle.aries.specs.Letters.{letter_n, letter_p}
 use Rattle.aries.specs.Numbers.{last_tool}
-use Rattle.aries.specs.Program.{count_of}
+use Rattle.aries.specs.Program.{answer_of, count_of, list_of, tally_for}
+use Rattle.aries.specs.Outcome.{refusal_number, Out}
 use Rattle.aries.specs.Text.{bytes, space, line_feed}
 use Rattle.printing.specs.Decimals.{decimal, signed_decimal}
 
@@ -84,10 +84,14 @@ unfolding bytes
 refusal_line number line = bytes "REFUSED " ++ (decimal number ++ (bytes " LINE " ++ (decimal line ++ (line_feed ∷ []))))
 
 -- what is printed of an answer, its list and its tally: the entries, then the tools used, in tool order
-unfoldable pub listing : Answer → List ℤ → List ℕ → List ℕ
+unfoldable pub listing : Out ℕ → List ℤ → List ℕ → List ℕ
 unfolding head_line entry_line tool_line lines_of refusal_line
-listing (Entries count) list tally = head_line count ++ (entry_lines list count ++ tool_lines tally)
-listing (Refused number line) list tally = refusal_line number line
+listing (Ok count) list tally = head_line count ++ (entry_lines list count ++ tool_lines tally)
+listing (Err e) list tally = refusal_line (refusal_number e.refusal) e.line
+
+-- the listing of what a text comes to, with a lent list of so many numbers
+abbrev pub printed : ℕ → Out (List Entry) → List ℕ
+printed numbers out = listing (answer_of out) (list_of numbers out) (tally_for out)
 
 -- Room for a line. With an index of 20 digits, three numbers of 11 bytes, a mode, four spaces and a line feed, an entry's line
 -- has 59 bytes. With a tool of 2 digits, three figures of 20 digits, three spaces and a line feed, a tool's line has 66.
@@ -95,5 +99,5 @@ abbrev pub longest_line : ℕ
 longest_line = 72
 
 -- room for a listing: the head, a line for each entry, and one for each tool
-abbrev pub listing_room : Answer → ℕ
+abbrev pub listing_room : Out ℕ → ℕ
 listing_room answer = longest_line * (suc (count_of answer) + last_tool)

@@ -2,49 +2,51 @@
 // tool used, or one line for a refusal.
 #![tactic(auto)]
 
-mod buffer; // bytes put into a buffer
 mod line; // the lines of a listing
 mod number; // numbers in decimal digits
+mod page; // bytes put one after another
 mod tool; // the lines of the tools used
 
-ghost use Rattle.std.specs.Prelude.{suc, ◌*◌, ◌≤◌, length};
-ghost use Rattle.printing.specs.Buffers.{Room, Put, Ends};
+ghost use Rattle.std.specs.Prelude.{◌≡◌, ◌++◌, ◌+◌, ◌*◌, ◌≤◌, length};
 ghost use Rattle.printing.specs.Examples.{Examples, PlatePrinted, StopsPrinted, ToolsPrinted};
 ghost use Rattle.printing.specs.Listing.{entry_lines, listing, longest_line, listing_room};
 
-use crate::line::{put_entry, put_head, put_refusal};
-use crate::tool::put_tools;
-use aries::answer::Answer;
+pub use crate::page::Page;
+use aries::refusal::Refused;
 use tallies::FIGURES;
 
-// The lines of the first entries.
-fn put_entries(out: &mut [u8], end: usize, list: &[i32], count: usize) -> usize
-    requires { Room (longest_line * suc count) end out.old }
-    ensures put { Put (entry_lines list.now count) end out.old result out.new }
-    ensures lower_bound { longest_line ≤ result }
-{
-    let mut at = end;
-    let mut left = count;
-    while 0 < left {
-        left -= 1;
-        at = put_entry(out, at, list, left);
+impl<const N: usize> Page<N> {
+    // The lines of the first entries.
+    fn push_entries(&mut self, list: &[i32], count: usize)
+        requires { length self.old + longest_line * count ≤ N }
+        ensures put { self.new ≡ self.old ++ entry_lines list.now count }
+        ensures bound { length self.new ≤ length self.old + longest_line * count }
+    {
+        for i in 0..count {
+            self.push_entry(list, i);
+        }
     }
-    at
 }
 
-// Puts the listing at the end of a buffer and answers where it starts. The buffer has 72 bytes for the head, for each entry
-// and for each of 99 tools; no line is longer.
-pub fn render(out: &mut [u8], list: &[i32], tally: &[u64; FIGURES], answer: Answer) -> usize
-    requires { listing_room answer ≤ length out.old }
-    ensures { Ends (listing answer list.now tally.now) out.old result out.new }
+// Puts the listing on a page. There is room where the page has 72 bytes for the head, for each entry and for each of 99 tools; no
+// line is longer.
+#[tactic(auto, unfolding(crate::specs::Listing::listing))]
+pub fn render<const N: usize>(
+    page: &mut Page<N>,
+    list: &[i32],
+    tally: &[u64; FIGURES],
+    answer: Result<usize, Refused>,
+)
+    requires { length page.old + listing_room answer ≤ N }
+    ensures { page.new ≡ page.old ++ listing answer list.now tally.now }
 {
     match answer {
-        Answer::Entries(count) => {
-            let tools = put_tools(out, tally);
-            let entries = put_entries(out, tools, list, count);
-            put_head(out, entries, count)
+        Ok(count) => {
+            page.push_head(count);
+            page.push_entries(list, count);
+            page.push_tools(tally);
         }
-        Answer::Refused(number, line) => put_refusal(out, out.len(), number, line),
+        Err(refused) => page.push_refusal(refused.refusal.number(), refused.line),
     }
 }
 

@@ -1,46 +1,50 @@
-// Numbers in decimal digits, put into a buffer.
-ghost use Rattle.std.specs.Prelude.{◌≡◌, [], ◌∷◌, ◌++◌, ◌+◌, ◌<◌, length};
-ghost use Rattle.printing.specs.Buffers.{Room, Put};
+// Numbers in decimal digits, on a page. The library writes them by `write!`, whose contract says nothing where it answers an
+// error, and nothing says that it answers none; a listing can't fail.
+ghost use Rattle.std.specs.Prelude.{◌≡◌, ◌++◌, ◌+◌, ◌≤◌, length, take};
 ghost use Rattle.printing.specs.Decimals.{decimal, signed_decimal};
-ghost use Rattle.printing.specs.Decimals.{digit as decimal_digit};
 
-use crate::buffer::put_byte;
+use crate::page::Page;
 
-const MINUS: u8 = 45;
+// The most digits of a number of 64 bits.
+const MOST_DIGITS: usize = 20;
 
-// The byte of a digit.
-fn digit(d: u64) -> u8
-    requires { d < 10 }
-    ensures { result ≡ decimal_digit d }
+// Puts the digits of a number at the start of a buffer, those of its tenth part and then the last, and answers how many they are.
+#[tactic(auto, using(crate::proofs::Decimals::length_one, crate::proofs::Decimals::length_more))]
+fn put_digits(buffer: &mut [u8], n: u64) -> usize
+    requires { length (decimal n) ≤ length buffer.old }
+    ensures count { result ≡ length (decimal n) }
+    ensures digits { take result buffer.new ≡ decimal n }
 {
-    48 + d as u8
-}
-
-// A number without a sign.
-pub fn put_decimal(out: &mut [u8], end: usize, n: u64) -> usize
-    requires { Room (length (decimal n)) end out.old }
-    ensures { Put (decimal n) end out.old result out.new }
-{
-    let mut rest = n;
-    let mut at = end;
-    while 10 <= rest {
-        at -= 1;
-        out[at] = digit(rest % 10);
-        rest /= 10;
+    if n < 10 {
+        buffer[0] = b'0' + n as u8;
+        return 1;
     }
-    put_byte(out, at, digit(rest))
+    let before = put_digits(buffer, n / 10);
+    buffer[before] = b'0' + (n % 10) as u8;
+    before + 1
 }
 
-// A number, with a minus where it is below zero.
-pub fn put_signed(out: &mut [u8], end: usize, a: i32) -> usize
-    requires { Room (length (signed_decimal a)) end out.old }
-    ensures { Put (signed_decimal a) end out.old result out.new }
-{
-    let size = signed::size(a);
-    let start = put_decimal(out, end, size as u64);
-    if signed::is_negative(a) {
-        put_byte(out, start, MINUS)
-    } else {
-        start
+impl<const N: usize> Page<N> {
+    // A number without a sign.
+    #[tactic(auto, using(crate::proofs::Decimals::decimal_word))]
+    pub(crate) fn push_decimal(&mut self, n: u64)
+        requires { length self.old + length (decimal n) ≤ N }
+        ensures { self.new ≡ self.old ++ decimal n }
+    {
+        let mut digits = [0u8; MOST_DIGITS];
+        let count = put_digits(&mut digits, n);
+        self.push_text(&digits[..count]);
+    }
+
+    // A number, with a minus where it is below zero.
+    #[tactic(auto, unfolding(crate::specs::Decimals::signed_decimal))]
+    pub(crate) fn push_signed(&mut self, a: i32)
+        requires { length self.old + length (signed_decimal a) ≤ N }
+        ensures { self.new ≡ self.old ++ signed_decimal a }
+    {
+        if a < 0 {
+            self.push(b'-');
+        }
+        self.push_decimal(u64::from(a.unsigned_abs()));
     }
 }

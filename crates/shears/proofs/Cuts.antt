@@ -1,41 +1,55 @@
 -- Laws of what the hits of a G66 have in common: that it leads where the definition does, and how large its numbers are.
 use mathlib.Core.Path.{◌≡◌, refl, sym, ap, ◌∙◌}
 use mathlib.Core.Bool.{Bool, true, false, cond}
-use Prim.Native.Nat.{ℕ, ◌+◌, ◌*◌, ◌≤◌, ◌<◌}
+use Prim.Native.Nat.{ℕ, max, ◌+◌, ◌*◌, ◌≤◌, ◌<◌}
 use native.Mathlib.Nat.{mul-le-mul, mul_comm, le_refl, le_trans, div-le_of_le-mul}
 use native.Mathlib.Numerals.{add-one}
 use native.Mathlib.Omega.{arith}
 use lib.Dec.{eqb, lit≤}
-use lib.IntN.{ℤ, pos, neg_ℤ, nat_abs, ◌+ℤ◌, ◌-ℤ◌, ◌*ℤ◌, +ℤ_assoc, +ℤ_comm}
+use lib.IntN.{ℤ, pos, neg_ℤ, nat_abs, ◌+ℤ◌, ◌-ℤ◌, ◌*ℤ◌}
 use mir.Syntax.{w32}
 use mir.Val.{SFits}
 use borrow.Author.Tests.{eqb-true, eqb-false}
-use Rattle.signed.proofs.Integers.{abs_word, abs_minus, abs-*ℤ, mul_add, mul_neg, quotient_rest, quotient_size, rest-small}
+use Rattle.std.proofs.lemmas.Int.{ints}
+use Rattle.signed.proofs.Integers.{abs_word, abs_minus, abs-*ℤ, mul_add, mul_neg, zero_minus, quotient_rest, quotient_size, rest-small}
 use Rattle.sine.specs.declared.Direction.{Direction}
-use Rattle.sine.specs.Sine.{direction_of}
+use Rattle.sine.specs.Series.{one}
+use Rattle.sine.specs.Sine.{direction_of, rounded}
+use Rattle.aries.specs.Moves.{point_at}
 use Rattle.sine.proofs.Bounds.{sine-small, cosine-small}
 use Rattle.aries.specs.declared.block.Shear.{Shear}
 use Rattle.aries.specs.Shear.{is_fit, travel, steps, divisor, denominator, along_part, across_part, shear_offset}
 use Rattle.aries.proofs.Shear.{first_is}
 use Rattle.shears.specs.declared.fractions.Fraction.{Fraction}
-use Rattle.shears.specs.Fractions.{split, Reduced}
-use Rattle.shears.specs.Cuts.{cut_of, along_cut, cut_offset, Bounded}
+use Rattle.shears.specs.Fractions.{split, value_of, Reduced}
+use Rattle.shears.specs.Cuts.{cut_of, cut_denominator, along_cut, cut_offset, Bounded}
+use Rattle.shears.specs.declared.places.Cut.{Cut}
 use Rattle.shears.proofs.Sizes.{travel_bound, steps_bound}
 
 -- ---- What it is made of
 
-pub cut_of_lem :
+-- the travel is divided by the steps, and by 1 where there is none
+pub divisor_is : (s : Shear) → max (steps s) 1 ≡ divisor s
+unfolding divisor
+divisor_is s = go (eqb (steps s) 0) refl
+  where
+    go : (t : Bool) → eqb (steps s) 0 ≡ t → max (steps s) 1 ≡ cond t 1 (steps s)
+    go true e = omega (arith, eqb-true (steps s) 0 e)
+    go false e = omega (arith, eqb-false (steps s) 0 e)
+
+-- the numbers of a cut, put together
+pub cut_is :
     (j : ℕ) (s : Shear) {n size way d : ℕ} {across : Fraction} {direction : Direction} → n ≡ steps s → size ≡ nat_abs s.length → way ≡ travel s
-    → d ≡ divisor s → across ≡ split (denominator s) (across_part s) → direction ≡ direction_of (pos j)
-    → record { hits = n + 1; ahead = d * size; behind = d * way; step = 2 * way; denominator = 2 * d; across = across; direction = direction }
-    ≡ cut_of j s
-cut_of_lem j s n-is size_is way-is d-is across-is direction-is = rw (n-is, size_is, way-is, d-is, across-is, direction-is, add-one)
+    → d ≡ divisor s → across ≡ split (2 * d) (pos d *ℤ s.across) → direction ≡ direction_of (pos j)
+    → record { hits = n + 1; ahead = d * size; behind = d * way; step = 2 * way; across = across; direction = direction } ≡ cut_of j s
+unfolding across_part
+cut_is j s n-is size_is way-is d-is across-is direction-is = rw (across-is, n-is, size_is, way-is, d-is, direction-is, add-one)
 
 -- ---- Where it leads
 
 -- a difference and one more number
 more_ahead : (a b c : ℤ) → a -ℤ b +ℤ c ≡ a +ℤ c -ℤ b
-more_ahead a b c = +ℤ_assoc a (neg_ℤ b) c ∙ ap (λ (z : ℤ). a +ℤ z) (+ℤ_comm (neg_ℤ b) c) ∙ sym (+ℤ_assoc a c (neg_ℤ b))
+more_ahead a b c = omega (arith, ints)
 
 module _ (j : ℕ) (s : Shear) (fit : is_fit s ≡ true) (k : ℕ) where
   along_is : along_cut (cut_of j s) k ≡ along_part s k
@@ -52,32 +66,38 @@ module _ (j : ℕ) (s : Shear) (fit : is_fit s ≡ true) (k : ℕ) where
   unfolding cut_offset shear_offset direction_of
   offset_is = rw (along_is, quotient_rest (across_part s) (denominator s))
 
+-- the axes of a hit, by the fraction that lies along the line
+pub place_is :
+    (c : Cut) (k : ℕ) {x y : ℤ} {along : Fraction} → along ≡ split (cut_denominator c) (along_cut c k)
+    → x ≡ rounded (value_of along *ℤ c.direction.cosine +ℤ value_of c.across *ℤ (pos 0 -ℤ c.direction.sine)) (along.denominator * one)
+    → y ≡ rounded (value_of along *ℤ c.direction.sine +ℤ value_of c.across *ℤ c.direction.cosine) (along.denominator * one)
+    → point_at x y ≡ cut_offset c k
+unfolding cut_offset
+place_is c k along-is x-is y-is =
+    rw (x-is, y-is, along-is, quotient_rest (along_cut c k) (cut_denominator c), zero_minus, mul_neg)
+
 -- ---- Sizes
+
+-- hit k along the line is as small as a fraction may be
+pub along_reduced : (c : Cut) (k : ℕ) → Bounded c k → Reduced (split (cut_denominator c) (along_cut c k))
+along_reduced c k bounded =
+    let way = along_cut c k in
+    let m = cut_denominator c in
+    record {
+      small = rw (quotient_size way m) (div-le_of_le-mul m bounded.along);
+      less = rest-small way m bounded.some;
+      narrow = bounded.across.narrow;
+    }
 
 -- what the travel is divided by
 divisor-some : (s : Shear) → 0 < divisor s
-unfolding divisor
-divisor-some s = go (eqb (steps s) 0) refl
-  where
-    go : (t : Bool) → eqb (steps s) 0 ≡ t → 0 < cond t 1 (steps s)
-    go true e = omega arith
-    go false e = let some = eqb-false (steps s) 0 e in omega arith
+divisor-some s = omega (arith, divisor_is s)
 
 divisor-steps : (s : Shear) → steps s ≤ divisor s
-unfolding divisor
-divisor-steps s = go (eqb (steps s) 0) refl
-  where
-    go : (t : Bool) → eqb (steps s) 0 ≡ t → steps s ≤ cond t 1 (steps s)
-    go true e = omega (arith, eqb-true (steps s) 0 e)
-    go false e = omega arith
+divisor-steps s = omega (arith, divisor_is s)
 
 divisor-least : (s : Shear) (n : ℕ) → 1 ≤ n → steps s ≤ n → divisor s ≤ n
-unfolding divisor
-divisor-least s n h k = go (eqb (steps s) 0)
-  where
-    go : (t : Bool) → cond t 1 (steps s) ≤ n
-    go true = h
-    go false = k
+divisor-least s n h k = omega (arith, divisor_is s)
 
 module _
     (s : Shear) (length-fits : SFits w32 s.length) (across-fits : SFits w32 s.across) (compensation-fits : SFits w32 s.compensation)
@@ -114,7 +134,7 @@ module _
           abs_minus (divisor s * nat_abs s.length + 2 * travel s * k) (divisor s * travel s) (denominator s * 4294967296)
           (omega (arith, i, t, steps_gone)) (omega (arith, t))
 
-      across_bound : Reduced (denominator s) (split (denominator s) (across_part s))
+      across_bound : Reduced (split (denominator s) (across_part s))
       unfolding across_part
       across_bound =
           let size : nat_abs (across_part s) ≤ denominator s * nat_abs s.across = rw (abs-*ℤ (pos (divisor s)) s.across) (mul-le-mul (omega arith) (le_refl (nat_abs s.across))) in

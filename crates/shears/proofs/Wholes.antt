@@ -19,29 +19,35 @@ use Rattle.shears.specs.Fractions.{value_of, Reduced, toward_zero}
 -- ---- Wholes and a rest
 
 -- a fraction times a number
-value-times : (m : ℕ) (x : Fraction) (p : ℤ) → value_of m x *ℤ p ≡ pos m *ℤ (x.whole *ℤ p) +ℤ x.rest *ℤ p
-value-times m x p = add-mul (pos m *ℤ x.whole) x.rest p ∙ ap (λ (z : ℤ). z +ℤ x.rest *ℤ p) (times_mul m x.whole p)
+value-times : (x : Fraction) (p : ℤ) → value_of x *ℤ p ≡ pos x.denominator *ℤ (x.whole *ℤ p) +ℤ x.rest *ℤ p
+value-times x p =
+    add-mul (pos x.denominator *ℤ x.whole) x.rest p
+    ∙ ap (λ (z : ℤ). z +ℤ x.rest *ℤ p) (times_mul x.denominator x.whole p)
 
--- two of them, whose rests are divided once more
-module _ (m : ℕ) (a b : Fraction) (p q : ℤ) where
+-- two of them over one denominator, whose rests are divided once more
+module _ (a b : Fraction) (p q : ℤ) (same : b.denominator ≡ a.denominator) where
   abbrev pub rests : ℤ
   rests = a.rest *ℤ p +ℤ b.rest *ℤ q
 
   abbrev pub wholes : ℤ
   wholes = a.whole *ℤ p +ℤ b.whole *ℤ q
 
-  pub sum_split :
-      value_of m a *ℤ p +ℤ value_of m b *ℤ q
-      ≡ value_of m (record { whole = wholes +ℤ quot_z rests (pos m); rest = rem_z rests (pos m) })
+  abbrev m : ℕ
+  m = a.denominator
+
+  b-times : value_of b *ℤ q ≡ pos m *ℤ (b.whole *ℤ q) +ℤ b.rest *ℤ q
+  b-times = value-times b q ∙ ap (λ (n : ℕ). pos n *ℤ (b.whole *ℤ q) +ℤ b.rest *ℤ q) same
+
+  pub sum_split : value_of a *ℤ p +ℤ value_of b *ℤ q ≡ pos m *ℤ (wholes +ℤ quot_z rests (pos m)) +ℤ rem_z rests (pos m)
   sum_split =
-      ap₂ ◌+ℤ◌ (value-times m a p) (value-times m b q)
+      ap₂ ◌+ℤ◌ (value-times a p) b-times
       ∙ add_pairs (pos m *ℤ (a.whole *ℤ p)) (a.rest *ℤ p) (pos m *ℤ (b.whole *ℤ q)) (b.rest *ℤ q)
       ∙ ap₂ ◌+ℤ◌ (sym (mul_add (a.whole *ℤ p) (b.whole *ℤ q) (pos m))) (sym (quotient_rest rests m))
       ∙ sym (+ℤ_assoc (pos m *ℤ wholes) (pos m *ℤ quot_z rests (pos m)) (rem_z rests (pos m)))
       ∙ ap (λ (z : ℤ). z +ℤ rem_z rests (pos m)) (sym (mul_add wholes (quot_z rests (pos m)) (pos m)))
 
   -- their sizes, where the numbers are sines
-  module _ (fa : Reduced m a) (fb : Reduced m b) (hp : nat_abs p ≤ one) (hq : nat_abs q ≤ one) where
+  module _ (fa : Reduced a) (fb : Reduced b) (hp : nat_abs p ≤ one) (hq : nat_abs q ≤ one) where
     pub wholes_size : nat_abs wholes ≤ 8589934592000000000
     wholes_size =
         abs_add (a.whole *ℤ p) (b.whole *ℤ q) 4294967296000000000 4294967296000000000
@@ -50,7 +56,8 @@ module _ (m : ℕ) (a b : Fraction) (p q : ℤ) where
     rests_size : nat_abs rests ≤ m * 2000000000
     rests_size =
         le_trans
-        (abs_add (a.rest *ℤ p) (b.rest *ℤ q) (m * one) (m * one) (abs_mul a.rest p m one (le_of_lt fa.less) hp) (abs_mul b.rest q m one (le_of_lt fb.less) hq))
+        (abs_add (a.rest *ℤ p) (b.rest *ℤ q) (m * one) (m * one)
+        (abs_mul a.rest p m one (le_of_lt fa.less) hp) (abs_mul b.rest q m one (le_of_lt (rw same at fb.less)) hq))
         (omega arith)
 
     pub sum_size : nat_abs (wholes +ℤ quot_z rests (pos m)) ≤ 8589934594000000000

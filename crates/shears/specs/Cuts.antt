@@ -18,10 +18,13 @@ cut_of j s =
       ahead = divisor s * nat_abs s.length;
       behind = divisor s * travel s;
       step = 2 * travel s;
-      denominator = denominator s;
       across = split (denominator s) (across_part s);
       direction = direction_of (pos j);
     }
+
+-- the denominator of all its hits
+abbrev pub cut_denominator : Cut → ℕ
+cut_denominator c = c.across.denominator
 
 -- hit k along the line, times the denominator
 abbrev pub along_cut : Cut → ℕ → ℤ
@@ -32,15 +35,15 @@ unfoldable pub cut_offset : Cut → ℕ → Point
 unfolding rounded
 cut_offset c k =
     point_at
-    (rounded (along_cut c k *ℤ c.direction.cosine -ℤ value_of c.denominator c.across *ℤ c.direction.sine) (c.denominator * one))
-    (rounded (along_cut c k *ℤ c.direction.sine +ℤ value_of c.denominator c.across *ℤ c.direction.cosine) (c.denominator * one))
+    (rounded (along_cut c k *ℤ c.direction.cosine -ℤ value_of c.across *ℤ c.direction.sine) (cut_denominator c * one))
+    (rounded (along_cut c k *ℤ c.direction.sine +ℤ value_of c.across *ℤ c.direction.cosine) (cut_denominator c * one))
 
 -- the numbers of a cut are as small as those of a G66 are, up to hit k
 pub record Bounded (c : Cut) (k : ℕ) : Type 0 where
-  pub some : 0 < c.denominator
+  pub some : 0 < cut_denominator c
   pub ahead : c.ahead + c.step * k ≤ 4000000000000000000
   pub behind : c.behind ≤ 4000000000000000000
-  pub along : nat_abs (along_cut c k) ≤ c.denominator * 4294967296
-  pub across : Reduced c.denominator c.across
+  pub along : nat_abs (along_cut c k) ≤ cut_denominator c * 4294967296
+  pub across : Reduced c.across
   pub cosine : nat_abs c.direction.cosine ≤ one
   pub sine : nat_abs c.direction.sine ≤ one

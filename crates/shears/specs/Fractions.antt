@@ -5,17 +5,18 @@ use Rattle.shears.specs.declared.fractions.Fraction.{Fraction}
 
 -- a numerator over a denominator, divided toward zero
 abbrev pub split : ℕ → ℤ → Fraction
-split denominator z = record { whole = quot_z z (pos denominator); rest = rem_z z (pos denominator) }
+split denominator z =
+    record { whole = quot_z z (pos denominator); rest = rem_z z (pos denominator); denominator = denominator }
 
 -- the numerator again
-abbrev pub value_of : ℕ → Fraction → ℤ
-value_of denominator x = pos denominator *ℤ x.whole +ℤ x.rest
+abbrev pub value_of : Fraction → ℤ
+value_of x = pos x.denominator *ℤ x.whole +ℤ x.rest
 
 -- the rest is less than a whole, and the wholes are of 32 bits and a sign at most
-pub record Reduced (denominator : ℕ) (x : Fraction) : Type 0 where
+pub record Reduced (x : Fraction) : Type 0 where
   pub small : nat_abs x.whole ≤ 4294967296
-  pub less : nat_abs x.rest < denominator
-  pub narrow : denominator ≤ 4294967296
+  pub less : nat_abs x.rest < x.denominator
+  pub narrow : x.denominator ≤ 4294967296
 
 -- wholes without a rest that may have another sign: one less in size where it has
 abbrev pub toward_zero : ℤ → ℤ → ℤ

@@ -1,5 +1,15 @@
 ghost use Rattle.std.specs.Prelude.{◌≡◌, true};
-ghost use Rattle.aries.specs.Shear.{width, cut_length, on_one_side, is_fit, travel, steps};
+ghost use Rattle.aries.specs.Shear.{
+  width,
+  cut_length,
+  on_one_side,
+  is_wide,
+  is_long,
+  holds_tool,
+  is_fit,
+  travel,
+  steps,
+};
 
 use aries::block::Shear;
 
@@ -13,41 +23,50 @@ const OVERLAP: u64 = 50;
 fn width(shear: Shear) -> u32
     ensures { result ≡ width shear }
 {
-    let along = shear.along;
-    signed::size(along)
+    shear.along.unsigned_abs()
 }
 
 // The length of the cut: that of the edge with what is added at both ends.
 fn cut_length(shear: Shear) -> i64
     ensures { result ≡ cut_length shear }
 {
-    let length = shear.length;
-    let compensation = shear.compensation;
-    signed::affine(length, 2, compensation)
+    i64::from(shear.length) + 2 * i64::from(shear.compensation)
 }
 
 // Whether both sizes of the tool lie on one side of the line, and neither is zero.
 fn on_one_side(shear: Shear) -> bool
     ensures { result ≡ on_one_side shear }
 {
-    let along = shear.along;
-    let across = shear.across;
-    if signed::is_positive(along) & signed::is_positive(across) {
-        return true;
-    }
-    signed::is_negative(along) & signed::is_negative(across)
+    (0 < shear.along && 0 < shear.across) || (shear.along < 0 && shear.across < 0)
+}
+
+// Whether the tool's size along the line is above 1 mm.
+fn is_wide(shear: Shear) -> bool
+    ensures { result ≡ is_wide shear }
+{
+    TOO_NARROW < width(shear)
+}
+
+// Whether the edge is not under 1.5 times that size.
+fn is_long(shear: Shear) -> bool
+    ensures { result ≡ is_long shear }
+{
+    3 * i64::from(width(shear)) <= 2 * i64::from(shear.length)
+}
+
+// Whether the cut is not under that size.
+fn holds_tool(shear: Shear) -> bool
+    ensures { result ≡ holds_tool shear }
+{
+    i64::from(width(shear)) <= cut_length(shear)
 }
 
 // Whether the numbers fit together.
+#[tactic(auto, unfolding(aries::specs::Shear::is_fit))]
 pub fn is_fit(shear: Shear) -> bool
     ensures { result ≡ is_fit shear }
 {
-    let length = shear.length;
-    let w = width(shear);
-    let thrice = (3 * (w as u64)) as i64;
-    on_one_side(shear)
-        & ((TOO_NARROW < w)
-            & ((thrice <= signed::product(2, length)) & ((w as i64) <= cut_length(shear))))
+    on_one_side(shear) && is_wide(shear) && is_long(shear) && holds_tool(shear)
 }
 
 // How far the tool travels.
@@ -55,7 +74,7 @@ pub fn travel(shear: Shear) -> u64
     requires { is_fit shear ≡ true }
     ensures { result ≡ travel shear }
 {
-    (cut_length(shear) - (width(shear) as i64)) as u64
+    (cut_length(shear) - i64::from(width(shear))) as u64
 }
 
 // The fewest equal steps none of which is longer than the tool's size less 0.5 mm.
@@ -63,6 +82,6 @@ pub fn steps(shear: Shear) -> u32
     requires { is_fit shear ≡ true }
     ensures { result ≡ steps shear }
 {
-    let longest = (width(shear) as u64) - OVERLAP;
-    ((travel(shear) + (longest - 1)) / longest) as u32
+    let longest = u64::from(width(shear)) - OVERLAP;
+    travel(shear).div_ceil(longest) as u32
 }

@@ -1,54 +1,28 @@
 -- Laws of the integers: sums and products rearranged, sizes bounded, and the machine words that hold them.
 -- Assumes nothing.
 use mathlib.Core.Path.{◌≡◌, refl, sym, ap, ap₂, ◌∙◌}
-use mathlib.Core.Bool.{Bool, true, false, cond}
-use Prim.Native.Nat.{ℕ, zero, suc, ◌+◌, ◌-◌, ◌*◌, ◌/◌, ◌%◌, ◌^◌, ◌≤◌, ◌<◌}
-use native.Mathlib.Nat.{le_trans, lt_of_le_of_lt, mul-le-mul, mod-lt, div-add-mod, div-le_self}
+use mathlib.Core.Bool.{Bool, true, false}
+use Prim.Native.Nat.{ℕ, zero, suc, ◌+◌, ◌-◌, ◌*◌, ◌/◌, ◌^◌, ◌≤◌, ◌<◌}
+use native.Mathlib.Nat.{le_trans, lt_of_le_of_lt, mul-le-mul, div-le_self}
 use native.Mathlib.Omega.{arith}
-use lib.Dec.{ltb, lit<}
-use lib.IntN.{
-  ℤ,
-  pos,
-  negsuc,
-  neg_ℤ,
-  suc_ℤ,
-  pred_ℤ,
-  nat_abs,
-  sub_ℕ,
-  ◌+ℤ◌,
-  ◌-ℤ◌,
-  ◌*ℤ◌,
-  +ℤ_assoc,
-  +ℤ_idl,
-  +ℤ_idr,
-  +ℤ_comm,
-  +ℤ_invl,
-  +ℤ_invr,
-  +ℤ-suc_ℤ,
-  +ℤ-pred_ℤ,
-  zero-*ℤ,
-  suc_ℤ-*ℤ,
-  pred_ℤ-*ℤ,
-  *ℤ_comm,
-  neg_ℤ-neg_ℤ,
-  neg_ℤ-+ℤ,
-}
+use lib.Dec.{lit<}
+use lib.IntN.{ℤ, pos, negsuc, neg_ℤ, suc_ℤ, pred_ℤ, nat_abs, ◌+ℤ◌, ◌-ℤ◌, ◌*ℤ◌, +ℤ_assoc, +ℤ_idr, +ℤ-suc_ℤ, +ℤ-pred_ℤ, zero-*ℤ, suc_ℤ-*ℤ, pred_ℤ-*ℤ, *ℤ_comm, neg_ℤ-neg_ℤ}
 use lib.Signed.{mag, quot_z, rem_z, nat_abs-le}
 use mir.Syntax.{Width, w32, w64}
 use mir.Val.{SFits, hbits, to_z, of_z}
 use mir.Facts.{to_z-of_z, sfits_widen}
-use borrow.Author.Tests.{ltb-true, ltb-false, le-ltb}
+use Rattle.std.proofs.lemmas.Int.{ints, quot-rem, rem_below, unsigned_abs-mul}
 use Rattle.signed.specs.Signed.{with_sign}
 
 -- ---- sums and products
 
 -- equal naturals as integers are equal naturals
 pub pos_injective : (m n : ℕ) → pos m ≡ pos n → m ≡ n
-pos_injective m n e = ap nat_abs e
+pos_injective m n e = omega (arith, ints)
 
 -- minus a, as a difference
 pub zero_minus : (a : ℤ) → pos 0 -ℤ a ≡ neg_ℤ a
-zero_minus a = +ℤ_idl (neg_ℤ a)
+zero_minus a = omega (arith, ints)
 
 -- one step up and one step down in the second summand of a product's factor
 add_mul_suc : (a b k : ℤ) → (a +ℤ b) *ℤ k ≡ a *ℤ k +ℤ b *ℤ k → (a +ℤ suc_ℤ b) *ℤ k ≡ a *ℤ k +ℤ suc_ℤ b *ℤ k
@@ -88,101 +62,72 @@ mul_neg k a = *ℤ_comm k (neg_ℤ a) ∙ neg_mul a k ∙ ap neg_ℤ (*ℤ_comm 
 
 -- two sums, summed the other way
 pub add_pairs : (a b c d : ℤ) → (a +ℤ b) +ℤ (c +ℤ d) ≡ (a +ℤ c) +ℤ (b +ℤ d)
-add_pairs a b c d =
-    +ℤ_assoc a b (c +ℤ d) ∙ ap (λ (z : ℤ). a +ℤ z) (sym (+ℤ_assoc b c d) ∙ ap (λ (z : ℤ). z +ℤ d) (+ℤ_comm b c) ∙ +ℤ_assoc c b d)
-    ∙ sym (+ℤ_assoc a c (b +ℤ d))
+add_pairs a b c d = omega (arith, ints)
 
 -- the difference of a number and a smaller one
 pub minus-less : (a b : ℕ) → b ≤ a → pos a -ℤ pos b ≡ pos (a - b)
-minus-less a zero h = let e : a + 0 ≡ a - 0 = omega arith in ap pos e
-minus-less a (suc b) h = simp (le-ltb a (suc b) h)
+minus-less a b h = omega (arith, ints)
 
 -- a sum with c taken off, taken off its first summand
 pub minus_sum : (a b c : ℤ) → a -ℤ (a +ℤ b -ℤ c) ≡ c -ℤ b
-minus_sum a b c =
-    ap (λ (z : ℤ). a +ℤ z) (neg_ℤ-+ℤ (a +ℤ b) (neg_ℤ c) ∙ ap₂ ◌+ℤ◌ (neg_ℤ-+ℤ a b) (neg_ℤ-neg_ℤ c) ∙ +ℤ_assoc (neg_ℤ a) (neg_ℤ b) c)
-    ∙ sym (+ℤ_assoc a (neg_ℤ a) (neg_ℤ b +ℤ c)) ∙ ap (λ (z : ℤ). z +ℤ (neg_ℤ b +ℤ c)) (+ℤ_invr a) ∙ +ℤ_idl (neg_ℤ b +ℤ c) ∙ +ℤ_comm (neg_ℤ b) c
+minus_sum a b c = omega (arith, ints)
 
 -- ---- differences
 
 -- what is added and taken off again
 pub plus-minus : (a b : ℤ) → (a +ℤ b) -ℤ b ≡ a
-plus-minus a b = +ℤ_assoc a b (neg_ℤ b) ∙ ap (λ (z : ℤ). a +ℤ z) (+ℤ_invr b) ∙ +ℤ_idr a
+plus-minus a b = omega (arith, ints)
 
 -- or taken off and added again
 pub minus_plus : (a b : ℤ) → (a -ℤ b) +ℤ b ≡ a
-minus_plus a b = +ℤ_assoc a (neg_ℤ b) b ∙ ap (λ (z : ℤ). a +ℤ z) (+ℤ_invl b) ∙ +ℤ_idr a
+minus_plus a b = omega (arith, ints)
 
 -- the first summand taken off
 pub sum_minus : (a b : ℤ) → (a +ℤ b) -ℤ a ≡ b
-sum_minus a b = ap (λ (z : ℤ). z -ℤ a) (+ℤ_comm a b) ∙ plus-minus b a
+sum_minus a b = omega (arith, ints)
 
 -- a number and how far another lies from it
 pub plus_difference : (a b : ℤ) → a +ℤ (b -ℤ a) ≡ b
-plus_difference a b = +ℤ_comm a (b -ℤ a) ∙ minus_plus b a
+plus_difference a b = omega (arith, ints)
 
 -- a difference taken off
 pub minus_difference : (a b c : ℤ) → a -ℤ (b -ℤ c) ≡ (a -ℤ b) +ℤ c
-minus_difference a b c =
-    ap (λ (z : ℤ). a +ℤ z) (neg_ℤ-+ℤ b (neg_ℤ c) ∙ ap (λ (z : ℤ). neg_ℤ b +ℤ z) (neg_ℤ-neg_ℤ c)) ∙ sym (+ℤ_assoc a (neg_ℤ b) c)
+minus_difference a b c = omega (arith, ints)
 
 -- from the number itself
 pub minus_minus : (a b : ℤ) → a -ℤ (a -ℤ b) ≡ b
-minus_minus a b = minus_difference a a b ∙ ap (λ (z : ℤ). z +ℤ b) (+ℤ_invr a) ∙ +ℤ_idl b
+minus_minus a b = omega (arith, ints)
 
 -- both moved by as much
 pub difference_moved : (a b d : ℤ) → (a +ℤ d) -ℤ (b +ℤ d) ≡ a -ℤ b
-difference_moved a b d =
-    ap (λ (z : ℤ). (a +ℤ d) +ℤ z) (neg_ℤ-+ℤ b d) ∙ add_pairs a d (neg_ℤ b) (neg_ℤ d)
-    ∙ ap (λ (z : ℤ). (a -ℤ b) +ℤ z) (+ℤ_invr d) ∙ +ℤ_idr (a -ℤ b)
+difference_moved a b d = omega (arith, ints)
 
 -- ---- sizes
 
 -- a sign does not change the size,
 pub abs_neg : (a : ℤ) → nat_abs (neg_ℤ a) ≡ nat_abs a
-abs_neg (pos zero) = refl
-abs_neg (pos (suc n)) = refl
-abs_neg (negsuc n) = refl
+abs_neg a = omega (arith, ints)
 
 -- nor does the sign a number is given
 pub abs_with_sign : (minus : Bool) (n : ℕ) → nat_abs (with_sign minus n) ≡ n
 abs_with_sign true n = abs_neg (pos n)
 abs_with_sign false n = refl
 
--- the difference of two naturals
-abs_difference : (a b : ℕ) → nat_abs (sub_ℕ a (suc b)) ≤ a + suc b
-abs_difference a b = go (ltb a (suc b))
-  where
-    go : (t : Bool) → nat_abs (cond t (negsuc (suc b - suc a)) (pos (a - suc b))) ≤ a + suc b
-    go true = omega arith
-    go false = omega arith
-
 -- the size of a sum
 abs-+ℤ : (a b : ℤ) → nat_abs (a +ℤ b) ≤ nat_abs a + nat_abs b
-abs-+ℤ (pos a) (pos b) = omega arith
-abs-+ℤ (pos a) (negsuc b) = abs_difference a b
-abs-+ℤ (negsuc a) (pos b) = omega (arith, abs_difference b a)
-abs-+ℤ (negsuc a) (negsuc b) = omega arith
+abs-+ℤ a b = omega (arith, ints)
 
 -- a difference is no larger than what each exceeds the other by
 pub abs_minus : (a b n : ℕ) → a ≤ b + n → b ≤ a + n → nat_abs (pos a -ℤ pos b) ≤ n
-abs_minus a zero n h k = omega arith
-abs_minus a (suc b) n h k = go (ltb a (suc b)) refl
-  where
-    go : (t : Bool) → ltb a (suc b) ≡ t → nat_abs (cond t (negsuc (suc b - suc a)) (pos (a - suc b))) ≤ n
-    go true e = omega (arith, ltb-true a (suc b) e)
-    go false e = omega (arith, ltb-false a (suc b) e)
+abs_minus a b n h k = omega (arith, ints)
 
 -- a sum is no larger than the bounds of its summands together
 pub abs_add : (a b : ℤ) (m n : ℕ) → nat_abs a ≤ m → nat_abs b ≤ n → nat_abs (a +ℤ b) ≤ m + n
-abs_add a b m n h k = omega (arith, abs-+ℤ a b)
+abs_add a b m n h k = omega (arith, ints)
 
 -- the size of a product
 pub abs-*ℤ : (a b : ℤ) → nat_abs (a *ℤ b) ≡ nat_abs a * nat_abs b
-abs-*ℤ (pos a) (pos b) = refl
-abs-*ℤ (pos a) (negsuc b) = abs_neg (pos (a * suc b))
-abs-*ℤ (negsuc a) (pos b) = abs_neg (pos (suc a * b))
-abs-*ℤ (negsuc a) (negsuc b) = refl
+abs-*ℤ a b = unsigned_abs-mul a b
 
 -- a product is no larger than the product of its factors' bounds
 pub abs_mul : (a b : ℤ) (m n : ℕ) → nat_abs a ≤ m → nat_abs b ≤ n → nat_abs (a *ℤ b) ≤ m * n
@@ -192,16 +137,11 @@ abs_mul a b m n h k = rw (abs-*ℤ a b) (mul-le-mul h k)
 
 -- a number is its quotient times the divisor, and the rest
 pub quotient_rest : (z : ℤ) (m : ℕ) → pos m *ℤ quot_z z (pos m) +ℤ rem_z z (pos m) ≡ z
-quotient_rest (pos a) m = ap pos (div-add-mod a m)
-quotient_rest (negsuc a) m =
-    ap (λ (z : ℤ). z +ℤ neg_ℤ (pos (suc a % m))) (mul_neg (pos m) (pos (suc a / m)))
-    ∙ sym (neg_ℤ-+ℤ (pos (m * (suc a / m))) (pos (suc a % m)))
-    ∙ ap (λ (n : ℕ). neg_ℤ (pos n)) (div-add-mod (suc a) m)
+quotient_rest z m = ap (λ (q : ℤ). q +ℤ rem_z z (pos m)) (*ℤ_comm (pos m) (quot_z z (pos m))) ∙ quot-rem z (pos m)
 
 -- the rest is below the divisor
 pub rest-small : (z : ℤ) (m : ℕ) → 0 < m → nat_abs (rem_z z (pos m)) < m
-rest-small (pos a) m h = mod-lt a h
-rest-small (negsuc a) m h = rw (abs_neg (pos (suc a % m))) (mod-lt (suc a) h)
+rest-small z m h = rem_below z (pos m) h
 
 -- the size of the quotient
 pub quotient_size : (z : ℤ) (m : ℕ) → nat_abs (quot_z z (pos m)) ≡ nat_abs z / m
@@ -227,31 +167,22 @@ abs_word a f = nat_abs-le a f.sfits
 pub abs_product : (a b : ℤ) → SFits w32 a → SFits w32 b → nat_abs (a *ℤ b) ≤ 4611686018427387904
 abs_product a b f g = abs_mul a b 2147483648 2147483648 (abs_word a f) (abs_word b g)
 
--- 64 bits hold what 32 do,
+-- 64 bits hold what 32 do
 pub wide : (a : ℤ) → SFits w32 a → SFits w64 a
 wide a f = sfits_widen tt f
 
--- also what is read from a word of 32,
-pub read_wide : (a : ℤ) → SFits w32 a → SFits w64 (to_z w32 (of_z w32 a))
-read_wide a f = simp (to_z-of_z f) (wide a f)
-
--- and it is the same number there
+-- what is read from a word of 32 and written to one of 64 is the same number there
 pub widened : (a : ℤ) → SFits w32 a → to_z w64 (of_z w64 (to_z w32 (of_z w32 a))) ≡ a
 widened a f = simp (to_z-of_z f, to_z-of_z (wide a f))
 
--- they hold the sums of two such numbers
+-- 64 bits hold the sums of two such numbers
 pub sum_fits : (a b : ℤ) → SFits w32 a → SFits w32 b → SFits w64 (a +ℤ b)
 sum_fits a b f g =
     fits_abs w64 (a +ℤ b) 4294967296 (abs_add a b 2147483648 2147483648 (abs_word a f) (abs_word b g)) (lit< tt)
 
 -- a difference is no larger than the bounds of both together
 pub abs_sub : (a b : ℤ) (m n : ℕ) → nat_abs a ≤ m → nat_abs b ≤ n → nat_abs (a -ℤ b) ≤ m + n
-abs_sub a b m n h k = abs_add a (neg_ℤ b) m n h (rw (abs_neg b) k)
-
--- and differences
-pub difference_fits : (a b : ℤ) → SFits w32 a → SFits w32 b → SFits w64 (a -ℤ b)
-difference_fits a b f g =
-    fits_abs w64 (a -ℤ b) 4294967296 (abs_sub a b 2147483648 2147483648 (abs_word a f) (abs_word b g)) (lit< tt)
+abs_sub a b m n h k = omega (arith, ints)
 
 -- and products
 pub product_fits : (a b : ℤ) → SFits w32 a → SFits w32 b → SFits w64 (a *ℤ b)

@@ -6,8 +6,7 @@ use Prim.Native.Nat.{ℕ, zero, suc, ◌+◌, ◌-◌, ◌%◌, ◌<◌, ◌≤�
 use native.Mathlib.Omega.{arith}
 use lib.Dec.{leb, ltb}
 use lib.IntN.{ℤ, pos, negsuc, neg_ℤ, sub_ℕ, ◌+ℤ◌, ◌-ℤ◌}
-use lib.Signed.{lt_z, rem_z}
-use borrow.Author.Tests.{leb-true, leb-false, ltb-true, ltb-false, le-leb, lt-leb, le-ltb}
+use borrow.Author.Tests.{leb-true, leb-false, ltb-true, ltb-false, le-leb, lt-leb}
 use Rattle.sine.specs.Sine.{turn, acute, turn_sine, sine, cosine}
 
 -- ---- the full turn
@@ -82,32 +81,8 @@ complement_high t h k =
     let e : turn (pos t) ≡ t = turn_reduced t k in
     omega (arith, turn_complement (pos t), e)
 
--- ---- division by a full turn; the remainder has the angle's sign
-
--- a remainder below zero lacks a turn
-pub turn_below : (a : ℤ) → lt_z (rem_z a (pos 36000)) (pos 0) ≡ true → rem_z a (pos 36000) +ℤ pos 36000 ≡ pos (turn a)
-unfolding turn
-turn_below (pos n) e = absurd (omega (arith, ltb-true (n % 36000) 0 e))
-turn_below (negsuc n) e = go (suc n % 36000) refl e
-  where
-    go : (r : ℕ) → r ≡ suc n % 36000 → lt_z (neg_ℤ (pos r)) (pos 0) ≡ true → neg_ℤ (pos r) +ℤ pos 36000 ≡ pos (35999 - n % 36000)
-    go zero q e = cc
-    go (suc r) q e =
-        let h : suc r ≤ 36000 = omega arith in
-        let d : 36000 - suc r ≡ 35999 - n % 36000 = omega arith in
-        simp (le-ltb 36000 (suc r) h) (ap pos d)
-
--- any other is the reduced angle
-pub turn_above : (a : ℤ) → lt_z (rem_z a (pos 36000)) (pos 0) ≡ false → rem_z a (pos 36000) ≡ pos (turn a)
-unfolding turn
-turn_above (pos n) e = refl
-turn_above (negsuc n) e = go (suc n % 36000) refl e
-  where
-    go : (r : ℕ) → r ≡ suc n % 36000 → lt_z (neg_ℤ (pos r)) (pos 0) ≡ false → neg_ℤ (pos r) ≡ pos (35999 - n % 36000)
-    go zero q e =
-        let d : 0 ≡ 35999 - n % 36000 = omega arith in
-        ap pos d
-    go (suc r) q e = cc
+-- both
+pub ruleset complements = (complement_low, complement_high)
 
 -- ---- reflection, quadrant by quadrant
 
@@ -137,8 +112,8 @@ acute_fourth t h =
     simp (acute, lt-leb t 9000 p, lt-leb t 18000 q, lt-leb t 27000 h)
 
 -- always into the first quadrant
-pub acute-small : (t : ℕ) → t < 36000 → acute t ≤ 9000
-acute-small t h = first (leb t 9000) refl
+pub acute_small : (t : ℕ) → t < 36000 → acute t ≤ 9000
+acute_small t h = first (leb t 9000) refl
   where
     third : 18000 < t → (b : Bool) → leb t 27000 ≡ b → acute t ≤ 9000
     third p true e = let k = leb-true t 27000 e in omega (arith, acute_third t p k)

@@ -7,7 +7,9 @@ use native.Mathlib.Nat.{mul-div-mul_left, div-div-eq-div-mul, add-mul-div_left}
 use native.Mathlib.Omega.{arith}
 use lib.IntN.{ℤ, pos, neg_ℤ, nat_abs, ◌*ℤ◌}
 use lib.Signed.{lt_z}
-use Rattle.signed.proofs.Integers.{abs_with_sign, abs_mul}
+use mir.Syntax.{w32}
+use mir.Val.{SFits}
+use Rattle.signed.proofs.Integers.{abs_with_sign, abs_mul, abs_product}
 use Rattle.sine.specs.Series.{nearest, one}
 use Rattle.sine.specs.Sine.{rounded, offset}
 
@@ -38,12 +40,16 @@ unfolding rounded
 rounded-small z n h = rw (abs_with_sign (lt_z z (pos 0)) (nearest (nat_abs z) one)) (omega arith)
 
 -- an offset within the bound of distance times sine
-pub offset-small : (distance s : ℤ) (n : ℕ) → nat_abs (distance *ℤ s) ≤ n → nat_abs (offset distance s) ≤ nearest n one
+pub offset_small : (distance s : ℤ) (n : ℕ) → nat_abs (distance *ℤ s) ≤ n → nat_abs (offset distance s) ≤ nearest n one
 unfolding offset
-offset-small distance s n h = rounded-small (distance *ℤ s) n h
+offset_small distance s n h = rounded-small (distance *ℤ s) n h
 
 -- a distance turned by a sine is no longer than it was
 pub offset-within : (distance s : ℤ) (n : ℕ) → nat_abs distance ≤ n → nat_abs s ≤ one → nat_abs (offset distance s) ≤ n
 offset-within distance s n h k =
     let p : nat_abs (distance *ℤ s) ≤ n * one = abs_mul distance s n one h k in
-    omega (arith, offset-small distance s (n * one) p)
+    omega (arith, offset_small distance s (n * one) p)
+
+-- so is an offset of two words
+pub offset_word : (distance s : ℤ) → SFits w32 distance → SFits w32 s → nat_abs (offset distance s) ≤ 4611686018
+offset_word distance s f g = omega (arith, offset_small distance s 4611686018427387904 (abs_product distance s f g))

@@ -1,26 +1,30 @@
 -- A rule holds at each entry of a table where one test over all its entries holds.
 -- Assumes nothing.
-use mathlib.Core.Path.{◌≡◌, subst, sym, ◌∙◌}
-use mathlib.Core.Bool.{Bool, true, ◌&&◌}
-use mathlib.Core.List.{List, [], ◌∷◌}
-use Prim.Native.Nat.{ℕ, zero, suc, ◌+◌, ◌<◌}
-use native.Mathlib.Nat.{add-zero, zero-add, add-suc, suc-add, le_of_suc-le-suc, not-suc-le-zero}
+use mathlib.Core.Path.{◌≡◌, refl, ap, ◌∙◌}
+use mathlib.Core.Bool.{Bool, true, false}
+use mathlib.Core.List.{List}
+use Prim.Native.Nat.{ℕ, ◌<◌}
+use native.Mathlib.Nat.{zero-add}
 use lib.ListN.{length, get_or}
-use Rattle.signed.proofs.Tests.{and_left, and_right}
+use Rattle.std.specs.List.{list_all, enumerate_from}
+use Rattle.std.proofs.lemmas.List.Folds.{list_all_at}
+use Rattle.std.proofs.lemmas.List.FromFn.{get_or-enumerate_from, length-enumerate_from}
 
--- the test holds at each entry and its place, places counted from i
-abbrev pub every : (ℕ → ℕ → Bool) → ℕ → List ℕ → Bool
-every f i [] = true
-every f i (x ∷ xs) = f i x && every f (suc i) xs
+module _ {A : Type 0} (test : ℕ × A → Bool) where
+  -- the test holds of each entry with its place
+  abbrev pub every : List A → Bool
+  every xs = list_all test (enumerate_from 0 xs)
 
-every_from : (f : ℕ → ℕ → Bool) (xs : List ℕ) (i : ℕ) → every f i xs ≡ true → (k : ℕ) → k < length xs → f (i + k) (get_or xs k 0) ≡ true
-every_from f [] i e k h = absurd (not-suc-le-zero h)
-every_from f (x ∷ xs) i e zero h =
-    subst (λ (m : ℕ). f m x ≡ true) (sym (add-zero i)) (and_left (f i x) (every f (suc i) xs) e)
-every_from f (x ∷ xs) i e (suc k) h =
-    subst (λ (m : ℕ). f m (get_or xs k 0) ≡ true) (suc-add i k ∙ sym (add-suc i k))
-    (every_from f xs (suc i) (and_right (f i x) (every f (suc i) xs) e) k (le_of_suc-le-suc h))
+  -- so it holds at place k
+  pub every-at : (xs : List A) (d : A) → every xs ≡ true → (k : ℕ) → k < length xs → test (k, get_or xs k d) ≡ true
+  every-at xs d e k h = go (test (k, get_or xs k d)) refl
+    where
+      inside : k < length (enumerate_from 0 xs)
+      inside = rw (length-enumerate_from 0 xs) h
 
--- the test at place k
-pub every-at : (f : ℕ → ℕ → Bool) (xs : List ℕ) → every f 0 xs ≡ true → (k : ℕ) → k < length xs → f k (get_or xs k 0) ≡ true
-every-at f xs e k h = subst (λ (m : ℕ). f m (get_or xs k 0) ≡ true) (zero-add k) (every_from f xs 0 e k h)
+      here : get_or (enumerate_from 0 xs) k (0, d) ≡ (k, get_or xs k d)
+      here = get_or-enumerate_from 0 xs k (0, d) h ∙ ap (λ (n : ℕ). (n, get_or xs k d)) (zero-add k)
+
+      go : (b : Bool) → test (k, get_or xs k d) ≡ b → b ≡ true
+      go true q = refl
+      go false q = let none = list_all_at test (enumerate_from 0 xs) k (0, d) inside (ap test here ∙ q) in cc

@@ -3,16 +3,11 @@
 
 ghost use Rattle.std.specs.Prelude.{◌≡◌, ◌≤◌, ◌<◌, pos, nat_abs, ◌+ℤ◌, ◌-ℤ◌};
 ghost use Rattle.signed.specs.Signed.{wide_limit};
-ghost use Rattle.sine.specs.Series.{
-  nearest,
-  one,
-  degree_sine,
-  hundredth_sine,
-  hundredth_cosine,
-  Follows,
-  Tables,
-};
+ghost use Rattle.sine.specs.Series.{nearest, one, degree_sine, hundredth_sine, hundredth_cosine};
 ghost use Rattle.sine.specs.Sine.{
+  quarter_turn,
+  full_turn,
+  degree_cosine,
   joined,
   quadrant_sine,
   turn,
@@ -25,7 +20,7 @@ ghost use Rattle.sine.specs.Sine.{
 
 mod entries;
 
-use entries::{DEGREE_SINES, HUNDREDTH_COSINES, HUNDREDTH_SINES};
+use entries::{DEGREE_SINES, HUNDREDTHS};
 
 // The cosine and the sine of one angle.
 #[derive(Clone, Copy)]
@@ -40,6 +35,15 @@ const ONE: u64 = 1_000_000_000;
 // A half, in the same unit.
 const HALF: u64 = 500_000_000;
 
+// Angles, in hundredths of a degree.
+const QUARTER_TURN: u32 = 9_000;
+
+const HALF_TURN: u32 = 18_000;
+
+const THREE_QUARTERS: u32 = 27_000;
+
+const FULL_TURN: u32 = 36_000;
+
 // A number of these units as the nearest whole number, halves up.
 fn nearest(n: u64) -> u64
     requires { n ≤ 9000000000000000000 }
@@ -48,129 +52,114 @@ fn nearest(n: u64) -> u64
     (n + HALF) / ONE
 }
 
-// The same for a number with a sign, halves away from zero.
+// The same for a number with a sign, halves away from zero. Tried: with the sign put to one call's result, the hits of arcs and long edges
+// take a twentieth longer.
+#[tactic(auto, unfolding(crate::specs::Sine::rounded))]
 pub fn rounded(z: i64) -> i64
     requires { nat_abs z ≤ 9000000000000000000 }
     ensures { result ≡ rounded z one }
 {
     if z < 0 {
-        0 - (nearest((0 - z) as u64) as i64)
+        -(nearest(z.unsigned_abs()) as i64)
     } else {
         nearest(z as u64) as i64
     }
 }
 
-// The sine of two angles together, by the sum formula.
-fn joined(sine1: u32, cosine1: u32, sine2: u32, cosine2: u32) -> u32
-    requires { (sine1 ≤ one) × ((cosine1 ≤ one) × ((sine2 ≤ one) × (cosine2 ≤ one))) }
-    ensures { result ≡ joined sine1 cosine1 sine2 cosine2 }
+// The sine of two angles together, by the sum formula, from the sine and cosine of the one and of the other.
+fn joined(first: (u32, u32), second: (u32, u32)) -> u32
+    requires first_small { (first.0 ≤ one) × (first.1 ≤ one) }
+    requires second_small { (second.0 ≤ one) × (second.1 ≤ one) }
+    ensures { result ≡ joined first.0 first.1 second.0 second.1 }
 {
-    let sum = (sine1 as u64) * (cosine2 as u64) + (cosine1 as u64) * (sine2 as u64);
+    let (sine1, cosine1) = first;
+    let (sine2, cosine2) = second;
+    let sum = u64::from(sine1) * u64::from(cosine2) + u64::from(cosine1) * u64::from(sine2);
     nearest(sum) as u32
 }
 
-// A copy of the table of whole degrees, to be lent for many angles.
-pub fn degree_sines() -> [u32; 91]
-    ensures { Follows degree_sine 91 result }
+// Sine and cosine of so many whole degrees.
+#[tactic(auto, using(crate::proofs::Tables::degree_is))]
+pub fn of_degrees(d: u32) -> (u32, u32)
+    requires { d ≤ 90 }
+    ensures { result ≡ (degree_sine d, degree_cosine d) }
 {
-    DEGREE_SINES
+    let d = d as usize;
+    (DEGREE_SINES[d], DEGREE_SINES[90 - d])
 }
 
-// A copy of the table of the sines of hundredths.
-pub fn hundredth_sines() -> [u32; 100]
-    ensures { Follows hundredth_sine 100 result }
+// Sine and cosine of so many hundredths of a degree.
+#[tactic(auto, using(crate::proofs::Tables::hundredth_is))]
+pub fn of_hundredths(h: u32) -> (u32, u32)
+    requires { h < 100 }
+    ensures { result ≡ (hundredth_sine h, hundredth_cosine h) }
 {
-    HUNDREDTH_SINES
-}
-
-// A copy of the table of the cosines of hundredths.
-pub fn hundredth_cosines() -> [u32; 100]
-    ensures { Follows hundredth_cosine 100 result }
-{
-    HUNDREDTH_COSINES
+    HUNDREDTHS[h as usize]
 }
 
 // The sine of an angle of the first quadrant, from its whole degrees and the hundredths past them.
-fn quadrant_sine(a: u32, degrees: &[u32; 91], sines: &[u32; 100], cosines: &[u32; 100]) -> u32
-    requires a_bound { a ≤ 9000 }
-    requires tables { Tables degrees.now sines.now cosines.now }
+#[tactic(auto, using(crate::proofs::Tables::sizes), unfolding(crate::specs::Sine::quadrant_sine))]
+fn quadrant_sine(a: u32) -> u32
+    requires { a ≤ quarter_turn }
     ensures { result ≡ quadrant_sine a }
 {
-    let d = (a / 100) as usize;
-    let h = (a % 100) as usize;
-    joined(degrees[d], degrees[90 - d], sines[h], cosines[h])
+    joined(of_degrees(a / 100), of_hundredths(a % 100))
 }
 
 // An angle reduced to a full turn.
+#[tactic(auto, unfolding(crate::specs::Sine::turn))]
 pub fn turn(angle: i64) -> u32
     ensures { result ≡ turn angle }
 {
-    let rest = angle % 36000;
-    if rest < 0 {
-        (rest + 36000) as u32
-    } else {
-        rest as u32
-    }
+    angle.rem_euclid(i64::from(FULL_TURN)) as u32
 }
 
 // What a reduced angle lacks of 90 degrees, reduced as well.
+#[tactic(auto, using(crate::proofs::Angles::complements))]
 fn complement(t: u32) -> u32
-    requires { t < 36000 }
-    ensures { result ≡ turn (pos 9000 -ℤ pos t) }
+    requires { t < full_turn }
+    ensures { result ≡ turn (pos quarter_turn -ℤ pos t) }
 {
-    if t <= 9000 { 9000 - t } else { 45000 - t }
+    if t <= QUARTER_TURN {
+        QUARTER_TURN - t
+    } else {
+        FULL_TURN + QUARTER_TURN - t
+    }
 }
 
 // A reduced angle reflected into the first quadrant.
+#[tactic(auto, unfolding(crate::specs::Sine::acute))]
 fn acute(t: u32) -> u32
-    requires { t < 36000 }
+    requires { t < full_turn }
     ensures { result ≡ acute t }
 {
-    if t <= 9000 {
-        return t;
+    match t {
+        ..=QUARTER_TURN => t,
+        ..=HALF_TURN => HALF_TURN - t,
+        ..=THREE_QUARTERS => t - HALF_TURN,
+        _ => FULL_TURN - t,
     }
-    if t <= 18000 {
-        return 18000 - t;
-    }
-    if t <= 27000 {
-        return t - 18000;
-    }
-    36000 - t
 }
 
 // The sine of a reduced angle.
-fn turn_sine(t: u32, degrees: &[u32; 91], sines: &[u32; 100], cosines: &[u32; 100]) -> i32
-    requires t_bound { t < 36000 }
-    requires tables { Tables degrees.now sines.now cosines.now }
+#[tactic(auto, using(crate::proofs::Bounds::reflected), unfolding(crate::specs::Sine::turn_sine))]
+fn turn_sine(t: u32) -> i32
+    requires { t < full_turn }
     ensures { result ≡ turn_sine t }
 {
-    signed::with_sign(18000 < t, quadrant_sine(acute(t), degrees, sines, cosines))
+    signed::with_sign(HALF_TURN < t, quadrant_sine(acute(t)))
 }
 
-// Cosine and sine of one angle, which is reduced once. The tables are lent: a copy of them costs more than an angle.
-pub fn direction_of(
-    angle: i64,
-    degrees: &[u32; 91],
-    sines: &[u32; 100],
-    cosines: &[u32; 100],
-) -> Direction
-    requires { Tables degrees.now sines.now cosines.now }
+// Cosine and sine of one angle, which is reduced once.
+#[tactic(auto, using(crate::proofs::Angles::turn_small))]
+pub fn direction_of(angle: i64) -> Direction
     ensures { result ≡ direction_of angle }
 {
     let t = turn(angle);
-    let c = turn_sine(complement(t), degrees, sines, cosines);
-    let s = turn_sine(t, degrees, sines, cosines);
-    Direction { cosine: c, sine: s }
-}
-
-// Cosine and sine of one angle, with tables of its own.
-pub fn direction_at(angle: i32) -> Direction
-    ensures { result ≡ direction_of angle }
-{
-    let degrees = degree_sines();
-    let sines = hundredth_sines();
-    let cosines = hundredth_cosines();
-    direction_of(signed::widen(angle), &degrees, &sines, &cosines)
+    Direction {
+        cosine: turn_sine(complement(t)),
+        sine: turn_sine(t),
+    }
 }
 
 // Where a distance leads from a start along an axis, by the sine (or cosine) of its angle to it.
@@ -178,5 +167,5 @@ pub fn displaced(start: i32, distance: i32, sine: i32) -> i64
     ensures value { result ≡ start +ℤ offset distance sine }
     ensures result_bound { nat_abs result ≤ wide_limit }
 {
-    (start as i64) + rounded((distance as i64) * (sine as i64))
+    i64::from(start) + rounded(i64::from(distance) * i64::from(sine))
 }

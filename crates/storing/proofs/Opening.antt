@@ -1,24 +1,27 @@
 -- Laws of a U line: the ways through its first run, and through storing its body.
-use mathlib.Core.Path.{◌≡◌, sym, ap, ◌∙◌}
+use Rattle.std.specs.Prelude.{Ok, Err, None, Some}
+use mathlib.Core.Path.{◌≡◌, refl}
 use mathlib.Core.Bool.{true, false}
 use mathlib.Core.List.{List}
-use mathlib.Core.Option.{none, some}
-use Prim.Native.Nat.{ℕ, ◌+◌, ◌-◌, ◌≤◌, ◌<◌}
-use native.Mathlib.Numerals.{add-one}
+use Prim.Native.Nat.{ℕ, ◌-◌, ◌≤◌, ◌<◌}
 use borrow.Author.Tests.{le-leb, lt-leb}
-use lib.Dec.{leb}
-use lib.ListN.{take, drop}
+use lib.ListN.{drop}
 use Rattle.aries.specs.declared.macros.Macros.{Macros}
+use Rattle.aries.specs.declared.refusal.Refusal.TheVariants.{NotClosed, StoreFull}
 use Rattle.aries.specs.declared.setup.Setup.{Setup}
 use Rattle.aries.specs.declared.state.Progress.{Progress}
-use Rattle.aries.specs.Outcome.{Out, refused, ◌>>=◌, need}
+use Rattle.aries.specs.Outcome.{Out, refused}
 use Rattle.aries.specs.Text.{lines}
 use Rattle.aries.specs.Entries.{Made, no_entry, map_after}
-use Rattle.aries.specs.Judging.{Judging}
-use Rattle.aries.specs.Macros.{Body, part, bodies_of, storing, characters, most_calls, call, run_lines, run_body}
+use Rattle.aries.specs.Judging.{Judging, limits}
+use Rattle.aries.specs.Macros.{Body, bodies_of, characters, most_calls, call, run_lines, run_body}
 use Rattle.aries.specs.Reader.{reader_of}
 use Rattle.aries.specs.Setup.{ordinary_frame}
 use Rattle.aries.specs.Bodies.{body_size, most_characters, runs_first, first_run, body_from, stored_at, Store, with_stored, open_body}
+use Rattle.aries.specs.Runs.{Lent, entries_made, Ran}
+use Rattle.aries.proofs.Runs.{ran-refused, ran-map, mapped}
+use Rattle.storing.specs.declared.Opened.{Opened}
+use Rattle.storing.specs.Opening.{opened_of, Opens}
 
 -- ---- The first run
 
@@ -35,34 +38,44 @@ module _ (j : Judging) (text : List ℕ) (m : Macros) (n : ℕ) (b : Body) (s : 
 
 -- ---- Storing
 
-module _ (j : Judging) (text : List ℕ) (n start line : ℕ) (ls : List (List ℕ)) (s : Setup) (st : Store) where
+-- a progress, with the bodies that are stored
+abbrev pub opened_with : Macros → Progress → Opened
+opened_with m g = record { macros = m; progress = g }
+
+stored_opened : (m : Macros) (out : Out (Made Progress)) → map_after opened_of (map_after (with_stored m) out) ≡ map_after (opened_with m) out
+stored_opened m (Ok x) = refl
+stored_opened m (Err e) = refl
+
+module _ (t : List ℕ) (n start line : ℕ) (s : Setup) (m : Macros) (g : Progress) where
+  abbrev whole : Judging → Store → Out (Made Store)
+  whole j = open_body j t n start line (lines (drop start t)) s
+
   -- no V line
-  pub open_unclosed : body_size (reader_of (ordinary_frame s) st.progress.state) n ls ≡ none → open_body j text n start line ls s st ≡ refused 9 line
+  pub opens-unclosed :
+      {l : Lent} → body_size (reader_of (ordinary_frame s) g.state) n (lines (drop start t)) ≡ None
+      → Opens (refused NotClosed line) s.job l l (with_stored m g) whole
   unfolding open_body
-  open_unclosed e = simp e
+  opens-unclosed e =
+      let o : whole (limits s.job) (with_stored m g) ≡ refused NotClosed line = simp e in
+      rw o ran-refused
 
-  -- the bodies with the new one
-  module _ (kept : Macros) (size : ℕ) (found : body_size (reader_of (ordinary_frame s) st.progress.state) n ls ≡ some size) (with-new : kept ≡ storing st.macros n start (start + size) (line + 1)) where
-    -- what is left to do, with the bodies to be kept
-    abbrev keep : Macros → Out (Made Store)
-    keep k = do
-      _ ← need (leb (characters k) most_characters) 12 line
-      map_after (with_stored k) (first_run j text st.macros n (body_from text start size line) s st.progress)
-
-    opened : open_body j text n start line ls s st ≡ keep kept
+  module _ {size : ℕ} (found : body_size (reader_of (ordinary_frame s) g.state) n (lines (drop start t)) ≡ Some size) where
+    -- the bodies with the new one have too many characters
+    pub opens-full :
+        {l : Lent} → most_characters < characters (stored_at m n start size line) → Opens (refused StoreFull line) s.job l l (with_stored m g) whole
     unfolding open_body
-    opened =
-        let a : open_body j text n start line ls s st ≡ keep (stored_at st.macros n start size line) = simp found in
-        a ∙ ap keep (ap (storing st.macros n start (start + size)) (sym (add-one line)) ∙ sym with-new)
-
-    -- they have too many characters
-    pub open_full : most_characters < characters kept → open_body j text n start line ls s st ≡ refused 12 line
-    open_full h = opened ∙ simp (lt-leb (characters kept) most_characters h)
+    opens-full h =
+        let o : whole (limits s.job) (with_stored m g) ≡ refused StoreFull line = simp (found, lt-leb (characters (stored_at m n start size line)) most_characters h) in
+        rw o ran-refused
 
     -- they are stored, after the first run
-    pub open_stored :
-        characters kept ≤ most_characters
-        → open_body j text n start line ls s st
-        ≡ map_after (with_stored kept) (first_run j text st.macros n (record { line = line + 1; bytes = take (start + size - start) (drop start text) }) s st.progress)
-    unfolding part
-    open_stored h = rw (opened, add-one line) (simp (le-leb (characters kept) most_characters h))
+    pub opens-ran :
+        {r : Out Progress} {before after : Lent} → characters (stored_at m n start size line) ≤ most_characters
+        → Ran entries_made s.job r before after g.entries (first_run (limits s.job) t m n (body_from t start size line) s g)
+        → Opens (mapped (opened_with (stored_at m n start size line)) r) s.job before after (with_stored m g) whole
+    unfolding open_body
+    opens-ran h ran =
+        let kept = stored_at m n start size line in
+        let run = first_run (limits s.job) t m n (body_from t start size line) s g in
+        let o : whole (limits s.job) (with_stored m g) ≡ map_after (with_stored kept) run = simp (found, le-leb (characters kept) most_characters h) in
+        rw (o, stored_opened kept run) (ran-map (opened_with kept) (λ left. refl) run ran)

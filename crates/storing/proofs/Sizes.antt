@@ -1,8 +1,9 @@
 -- Laws of the size of a body: by the line at a place of the text, and from line to line.
-use mathlib.Core.Path.{◌≡◌, refl, sym, ap, ◌∙◌}
+use Rattle.std.specs.Prelude.{None, Option, Some}
+use Rattle.std.specs.Bool.{then_some}
+use mathlib.Core.Path.{◌≡◌, refl, ap, ◌∙◌}
 use mathlib.Core.Bool.{Bool, true, false, cond}
 use mathlib.Core.List.{List}
-use mathlib.Core.Option.{Option, none, some}
 use Prim.Native.Nat.{ℕ, ◌+◌, ◌-◌, ◌≤◌, ◌<◌}
 use native.Mathlib.Omega.{arith}
 use lib.ListN.{length, get_or, drop, length-take}
@@ -11,8 +12,7 @@ use Rattle.aries.specs.declared.reader.Reader.{Reader}
 use Rattle.aries.specs.Bodies.{is_own_close, longer, body_size}
 use Rattle.text.specs.Lines.{line_length, line_at, line_end}
 use Rattle.text.proofs.Lines.{line-short, lines_at, lines-past, first_byte}
-use Rattle.storing.specs.declared.Size.TheVariants.{Bytes, Missing}
-use Rattle.storing.specs.Sizes.{marks, size_of, Sized}
+use Rattle.storing.specs.Marks.{marks}
 
 -- ---- The line at a place
 
@@ -22,7 +22,7 @@ module _ (t : List ℕ) (at : ℕ) (h : at < length t) where
 
   module _ (r : Reader) (n : ℕ) where
     -- a U or V line ends the search
-    size_mark : marks (get_or t at 0) ≡ true → body_size r n (lines (drop at t)) ≡ cond (is_own_close r n (line_at t at)) (some 0) none
+    size_mark : marks (get_or t at 0) ≡ true → body_size r n (lines (drop at t)) ≡ cond (is_own_close r n (line_at t at)) (Some 0) None
     unfolding body_size
     size_mark m = ap (body_size r n) (lines_at t at h) ∙ simp (body_size, line-marks, m)
 
@@ -39,12 +39,12 @@ module _ (t : List ℕ) (at : ℕ) (h : at < length t) where
 
 -- line upon line
 longer_again : (a b k : ℕ) (size : Option ℕ) → a + b ≡ k → longer a (longer b size) ≡ longer k size
-longer_again a b k none e = refl
-longer_again a b k (some n) e = let d : a + (b + n) ≡ k + n = omega arith in ap some d
+longer_again a b k None e = refl
+longer_again a b k (Some n) e = let d : a + (b + n) ≡ k + n = omega arith in ap Some d
 
 longer_zero : (k : ℕ) (size : Option ℕ) → k ≡ 0 → size ≡ longer k size
-longer_zero k none e = refl
-longer_zero k (some n) e = let d : n ≡ k + n = omega arith in ap some d
+longer_zero k None e = refl
+longer_zero k (Some n) e = let d : n ≡ k + n = omega arith in ap Some d
 
 module _ (r : Reader) (n : ℕ) (t : List ℕ) (from : ℕ) where
   abbrev size : Option ℕ
@@ -57,13 +57,10 @@ module _ (r : Reader) (n : ℕ) (t : List ℕ) (from : ℕ) where
   pub from_start : From from
   from_start = let k : from - from ≡ 0 = omega arith in longer_zero (from - from) size k
 
-  sized_none : size ≡ none → Sized t from Missing size
-  sized_none e = record { same = sym (ap size_of e); inside = λ k b. let z : ◌≡◌ {A = ℕ} 0 1 = cc in absurd (omega arith) }
-
   -- no V line up to the end of the text
-  pub sized_past : (at : ℕ) → length t ≤ at → From at → Sized t from Missing size
+  pub size_past : (at : ℕ) → length t ≤ at → From at → size ≡ None
   unfolding body_size
-  sized_past at h s = sized_none (s ∙ ap (λ (ls : List (List ℕ)). longer (at - from) (body_size r n ls)) (lines-past t at h))
+  size_past at h s = s ∙ ap (λ (ls : List (List ℕ)). longer (at - from) (body_size r n ls)) (lines-past t at h)
 
   module _ (at : ℕ) (h : at < length t) (s : From at) where
     -- another line
@@ -74,26 +71,10 @@ module _ (r : Reader) (n : ℕ) (t : List ℕ) (from : ℕ) where
         ∙ ap (longer (at - from)) (size_other t at h r n m)
         ∙ longer_again (at - from) (line_length (drop at t) + 1) (line_end t at + 1 - from) (body_size r n (lines (drop (line_end t at + 1) t))) k
 
-    module _ (m : marks (get_or t at 0) ≡ true) where
-      at_mark : (b : Bool) → is_own_close r n (line_at t at) ≡ b → size ≡ longer (at - from) (cond b (some 0) none)
-      at_mark b o = s ∙ ap (longer (at - from)) (size_mark t at h r n m ∙ ap (λ (x : Bool). cond x (some 0) none) o)
-
-      -- the own V line
-      pub sized_own : from ≤ at → is_own_close r n (line_at t at) ≡ true → Sized t from (Bytes (at - from)) size
-      sized_own f o =
-          let k : at - from + 0 ≡ at - from = omega arith in
-          record { same = sym (ap size_of (at_mark true o ∙ ap some k)); inside = λ i b. let e : at - from ≡ i = cc in omega arith }
-
-      -- another U or V line
-      pub sized_other : is_own_close r n (line_at t at) ≡ false → Sized t from Missing size
-      sized_other o = sized_none (at_mark false o)
-
--- ---- What the answer says
-
-pub size-found : (size : Option ℕ) (n : ℕ) → Bytes n ≡ size_of size → size ≡ some n
-size-found (some k) n e = let d : n ≡ k = cc in rw d
-size-found none n e = let z : ◌≡◌ {A = ℕ} 0 1 = cc in absurd (omega arith)
-
-pub size_missing : (size : Option ℕ) → Missing ≡ size_of size → size ≡ none
-size_missing none e = refl
-size_missing (some k) e = let z : ◌≡◌ {A = ℕ} 0 1 = cc in absurd (omega arith)
+    -- a U or V line: the bytes up to there, if it is the own V line
+    pub size-at-mark : from ≤ at → marks (get_or t at 0) ≡ true → size ≡ then_some (is_own_close r n (line_at t at)) (at - from)
+    size-at-mark f m = s ∙ ap (longer (at - from)) (size_mark t at h r n m) ∙ go (is_own_close r n (line_at t at))
+      where
+        go : (own : Bool) → longer (at - from) (cond own (Some 0) None) ≡ then_some own (at - from)
+        go true = let k : at - from + 0 ≡ at - from = omega arith in ap Some k
+        go false = refl

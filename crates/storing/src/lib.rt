@@ -1,8 +1,7 @@
 // U lines: where the body ends, its first run, and storing it.
 #![tactic(auto)]
 
-ghost use Rattle.std.specs.Prelude.{◌≡◌, true, ◌≤◌, ◌<◌, length, drop};
-ghost use Rattle.aries.specs.declared.state.Status.TheVariants.{Passed};
+ghost use Rattle.std.specs.Prelude.{◌≡◌, true, ◌≤◌, ◌<◌, ◌+◌, length, drop, IfOk, IfSome};
 ghost use Rattle.aries.specs.Bodies.{is_own_close, body_size, runs_first, first_run, with_stored, open_body};
 ghost use Rattle.aries.specs.Runs.{lent_both, Carried};
 ghost use Rattle.aries.specs.Setup.{ordinary_frame};
@@ -10,16 +9,16 @@ ghost use Rattle.aries.specs.Steady.{GivenNear};
 ghost use Rattle.aries.specs.Judging.{near};
 ghost use Rattle.aries.specs.Text.{lines};
 ghost use Rattle.text.specs.Lines.{line_at};
-ghost use Rattle.storing.specs.Sizes.{marks, Sized};
+ghost use Rattle.storing.specs.Marks.{marks};
 ghost use Rattle.storing.specs.Opening.{Opens};
 
-use aries::block::{Block, Decoded, Outside};
-use aries::macros::Macros;
+use aries::block::{Block, Layout, Outside};
+use aries::location::Location;
+use aries::macros::{Macros, StoredBody};
 use aries::reader::Reader;
-use aries::refusal;
-use aries::setup::{Setup, Sheet};
-use aries::state::{Outcome, Progress, Status};
-use bodies::Opening;
+use aries::refusal::{Refusal, Refused};
+use aries::setup::Setup;
+use aries::state::Progress;
 use tallies::FIGURES;
 
 // The most characters that stored bodies may have.
@@ -28,26 +27,15 @@ const MOST_CHARACTERS: usize = 3_100;
 // The last macro that runs when it is stored.
 const LAST_RUN: u8 = 59;
 
-// The bytes of a body, if its V line was found.
-#[derive(Clone, Copy)]
-enum Size {
-    Bytes(usize),
-    Missing,
-}
-
 // Whether the line at a place is the V line of a macro.
+#[tactic(auto, using(crate::proofs::Closing::own_decoded))]
 fn is_own_close(reader: Reader, number: u8, text: &[u8], at: usize) -> bool
     ensures { result ≡ is_own_close reader number (line_at text.now at) }
 {
-    let decoded = decode::decode(reader, text, at);
-    let Decoded::Instruction(instruction, _) = decoded else {
+    let Ok((instruction, _)) = decode::decode(reader, text, at) else {
         return false;
     };
-    let block = instruction.block;
-    let Block::Outside(outside) = block else {
-        return false;
-    };
-    let Outside::Close(closed) = outside else {
+    let Block::Outside(Outside::Close(closed)) = instruction.block else {
         return false;
     };
     closed == number
@@ -57,37 +45,30 @@ fn is_own_close(reader: Reader, number: u8, text: &[u8], at: usize) -> bool
 fn is_mark(first: u8) -> bool
     ensures { result ≡ marks first }
 {
-    if first == b'U' {
-        return true;
-    }
-    first == b'V'
+    matches!(first, b'U' | b'V')
 }
 
 // The bytes from a place of the text to the next U or V line, if that is the V line of a macro.
-fn body_size(reader: Reader, number: u8, text: &[u8], from: usize) -> Size
-    ensures { Sized text.now from result (body_size reader number (lines (drop from text.now))) }
+fn body_size(reader: Reader, number: u8, text: &[u8], from: usize) -> Option<usize>
+    ensures found { result ≡ body_size reader number (lines (drop from text.now)) }
+    ensures inside { IfSome result (λ size. from + size < length text.now) }
 {
     let mut at = from;
-    while at < text.len() {
-        if is_mark(text[at]) {
-            if is_own_close(reader, number, text, at) {
-                return Size::Bytes(at - from);
-            }
-            return Size::Missing;
+    // line by line: split would give the lines, but not their places
+    while let Some(&first) = text.get(at) {
+        if is_mark(first) {
+            return is_own_close(reader, number, text, at).then_some(at - from);
         }
         at = text::line_end(text, at) + 1;
     }
-    Size::Missing
+    None
 }
 
 // Whether a macro runs when it is stored.
-fn runs_first(number: u8, sheet: Sheet) -> bool
+fn runs_first(number: u8, sheet: Option<Layout>) -> bool
     ensures { result ≡ runs_first number sheet }
 {
-    match sheet {
-        Sheet::Plain => number <= LAST_RUN,
-        Sheet::LaidOut(_) => false,
-    }
+    sheet.is_none() && number <= LAST_RUN
 }
 
 // The first run of a body that is being stored, where there is one; its first line has a number.
@@ -99,87 +80,69 @@ fn first_run(
     body: &[u8],
     first: u16,
     setup: Setup,
-    macros: Macros,
+    macros: &Macros,
     progress: Progress,
-) -> Outcome
+) -> Result<Progress, Refused>
     requires { (near setup.origin ≡ true) × (GivenNear progress.state) }
-    ensures { Carried result (ordinary_frame setup) (lent_both list.old tally.old) (lent_both list.new tally.new) progress (λ j. first_run j text.now macros number (record { line = first; bytes = body.now }) setup) }
+    ensures { Carried result (ordinary_frame setup) (lent_both list.old tally.old) (lent_both list.new tally.new) progress (λ j. first_run j text.now macros.now number (record { line = first; bytes = body.now }) setup) }
 {
-    let sheet = setup.sheet;
-    if !runs_first(number, sheet) {
-        return Outcome::passed(progress);
+    if !runs_first(number, setup.sheet) {
+        return Ok(progress);
     }
-    let opening = Opening {
-        at: 0,
+    let start = Location {
+        offset: 0,
         line: first as u64,
     };
+    let depth = bodies::FURTHER_CALLS;
+    let frame = setup.frame();
     bodies::run_blocks(
-        bodies::FURTHER_CALLS,
-        list,
-        tally,
-        text,
-        body,
-        opening,
-        macros,
-        setup.frame(),
-        progress,
+        depth, list, tally, text, body, start, macros, frame, progress,
     )
 }
 
-// What a U line leaves. After a refusal all but the status is of no account.
+// What a U line leaves.
 #[derive(Clone, Copy)]
 pub struct Opened {
-    pub status: Status,
     pub macros: Macros,
     pub progress: Progress,
 }
 
-// The U line of a macro, in a line with a number; its body starts at a place of the text.
+// The U line of a macro: its body starts at a place of the text, behind the U line, whose number goes with the place.
 pub fn open_body(
     list: &mut [i32],
     tally: &mut [u64; FIGURES],
     text: &[u8],
     number: u8,
-    start: usize,
-    line: u64,
+    start: Location,
     setup: Setup,
-    stored: Macros,
+    stored: &Macros,
     progress: Progress,
-) -> Opened
-    requires text_len_bound { (length text.now ≤ 60000) × (line < 65535) }
+) -> Result<Opened, Refused>
+    requires text_len_bound { (length text.now ≤ 60000) × (start.line < 65535) }
     requires origin_value { (near setup.origin ≡ true) × (GivenNear progress.state) }
-    ensures opens { Opens result setup.job (lent_both list.old tally.old) (lent_both list.new tally.new) (with_stored stored progress) (λ j. open_body j text.now number start line (lines (drop start text.now)) setup) }
-    ensures given_near { result.status ≡ Passed → GivenNear result.progress.state }
+    ensures opens { Opens result setup.job (lent_both list.old tally.old) (lent_both list.new tally.new) (with_stored stored.now progress) (λ j. open_body j text.now number start.offset start.line (lines (drop start.offset text.now)) setup) }
+    ensures given_near { IfOk result (λ opened. GivenNear opened.progress.state) }
 {
-    let frame = setup.frame();
-    let given = progress.state.given;
-    let found = body_size(frame.reader(given), number, text, start);
-    let Size::Bytes(size) = found else {
-        return Opened {
-            status: Status::Refused(refusal::NOT_CLOSED, line),
-            macros: stored,
-            progress,
-        };
+    let reader = setup.frame().reader(progress.state.given);
+    let Some(size) = body_size(reader, number, text, start.offset) else {
+        return Err(Refusal::NotClosed.at(start.line));
     };
-    let end = start + size;
-    let first = (line + 1) as u16;
-    let kept = stored.storing(number, start as u16, end as u16, first);
+    let end = start.offset + size;
+    let body = StoredBody {
+        start: start.offset as u16,
+        end: end as u16,
+        line: (start.line + 1) as u16,
+    };
+    let kept = stored.storing(number, body);
     if MOST_CHARACTERS < kept.characters() {
-        return Opened {
-            status: Status::Refused(refusal::STORE_FULL, line),
-            macros: stored,
-            progress,
-        };
+        return Err(Refusal::StoreFull.at(start.line));
     }
-    let body = &text[start..end];
-    let ran = first_run(
-        list, tally, text, number, body, first, setup, stored, progress,
-    );
-    let status = ran.status;
-    let after = ran.progress;
-    Opened {
-        status,
+    let bytes = &text[start.offset..end];
+    let left = first_run(
+        list, tally, text, number, bytes, body.line, setup, stored, progress,
+    )?;
+    Ok(Opened {
         macros: kept,
-        progress: after,
-    }
+        progress: left,
+    })
 }

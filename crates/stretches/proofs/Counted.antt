@@ -1,17 +1,19 @@
 -- The hits of a direct block: of one tool where it runs a pattern or punches, and else there are none. So they are counted in
 -- one go.
+use Rattle.std.specs.Prelude.{Ok}
 use mathlib.Core.Path.{◌≡◌, refl, sym, ap, ◌∙◌}
 use mathlib.Core.Bool.{Bool, true, false, ◌||◌}
 use mathlib.Core.List.{List, []}
 use Prim.Native.Nat.{ℕ}
 use lib.IntN.{ℤ}
+use Rattle.aries.specs.declared.refusal.Refusal.TheVariants.{TooFar, OutOfRange, ListFull}
 use Rattle.aries.specs.declared.block.Direct.{Direct}
 use Rattle.aries.specs.declared.block.Direct.TheVariants.{Lone, Punch, Move, PatternOrigin, RunPattern, Recall, Nibble, Idle, Stop}
 use Rattle.aries.specs.declared.job.Job.{Job}
 use Rattle.aries.specs.declared.state.Frame.{Frame}
 use Rattle.aries.specs.declared.state.Progress.{Progress}
-use Rattle.aries.specs.declared.state.Status.{Status}
-use Rattle.aries.specs.Outcome.{Out, done, ◌>>=◌, need}
+use Rattle.aries.specs.declared.refusal.Refusal.{Refusal}
+use Rattle.aries.specs.Outcome.{Out, ◌>>=◌, need}
 use Rattle.aries.specs.Entries.{Made, hits_in}
 use Rattle.aries.specs.Judging.{Judging, judged, near, room}
 use Rattle.aries.specs.Machine.{in_range}
@@ -27,14 +29,14 @@ use Rattle.stretches.specs.Plain.{is_pattern, is_punch}
 
 -- what is accepted has no hit
 record Hitless (out : Out (Made Progress)) : Type 0 where
-  none : (m : Made Progress) → out ≡ done m → hits_in m.entries ≡ []
+  none : (m : Made Progress) → out ≡ Ok m → hits_in m.entries ≡ []
 
-hitless-done : {m : Made Progress} → hits_in m.entries ≡ [] → Hitless (done m)
+hitless-done : {m : Made Progress} → hits_in m.entries ≡ [] → Hitless (Ok m)
 hitless-done {m} h = record { none = λ n e. ap (λ (x : Made Progress). hits_in x.entries) (sym (done_injective m n e)) ∙ h }
 
-hitless-need : {rest : Out (Made Progress)} (b : Bool) (number line : ℕ) → Hitless rest → Hitless (◌>>=◌ (need b number line) (λ u. rest))
-hitless-need true number line h = h
-hitless-need false number line h = record { none = λ m e. absurd (refused≢done number line m e) }
+hitless-need : {rest : Out (Made Progress)} (b : Bool) (refusal : Refusal) (line : ℕ) → Hitless rest → Hitless (◌>>=◌ (need b refusal line) (λ u. rest))
+hitless-need true refusal line h = h
+hitless-need false refusal line h = record { none = λ m e. absurd (refused≢done (record { refusal = refusal; line = line }) m e) }
 
 -- its hits have one tool, or there are none
 abbrev Counting : Bool → Out (Made Progress) → Type 0
@@ -49,23 +51,23 @@ module _ (j : Judging) (f : Frame) (line : ℕ) (g : Progress) where
   counting (Punch a tool) = (_, one-position j f line a tool g)
   counting Lone = hitless-done refl
   counting (Move a tool) =
-      hitless-need (judged j.bounds (near (seen f (target f g.state a)))) 15 line
-      (hitless-need (judged j.bounds (in_range f (seen f (target f g.state a)))) 16 line (hitless-done refl))
-  counting (PatternOrigin a) = hitless-need (judged j.bounds (near (target f g.state a))) 15 line (hitless-done refl)
+      hitless-need (judged j.bounds (near (seen f (target f g.state a)))) TooFar line
+      (hitless-need (judged j.bounds (in_range f (seen f (target f g.state a)))) OutOfRange line (hitless-done refl))
+  counting (PatternOrigin a) = hitless-need (judged j.bounds (near (target f g.state a))) TooFar line (hitless-done refl)
   counting (Nibble on) = hitless-done refl
   counting Idle = hitless-done refl
-  counting (Stop optional) = hitless-need (room j.places g.entries) 17 line (hitless-done refl)
+  counting (Stop optional) = hitless-need (room j.places g.entries) ListFull line (hitless-done refl)
 
   module _
-      {job : Job} {status : Status} {left : Progress} {l l' : List ℤ} {k : ℕ} (t : List ℕ) (d : Direct)
-      (ran : Ran entries_made job status left (lent l) (lent l') k (carry_direct j f line d g)) where
+      {job : Job} {left : Progress} {l l' : List ℤ} {k : ℕ} (t : List ℕ) (d : Direct)
+      (ran : Ran entries_made job (Ok left) (lent l) (lent l') k (carry_direct j f line d g)) where
     -- a block that runs a pattern or punches, with its hits counted by the tool that it leaves
     pub hits_counted :
         (is_pattern d || is_punch d) ≡ true
-        → Ran entries_made job status left (lent_both l t) (lent_both l' (with_hits t left.state.tool k left.entries)) k (carry_direct j f line d g)
+        → Ran entries_made job (Ok left) (lent_both l t) (lent_both l' (with_hits t left.state.tool k left.entries)) k (carry_direct j f line d g)
     hits_counted e = let c : Counting true (carry_direct j f line d g) = rw e at (counting d) in carried_hits t c.1 ran
 
     -- any other, with nothing counted
     pub nothing_counted :
-        (is_pattern d || is_punch d) ≡ false → Ran entries_made job status left (lent_both l t) (lent_both l' t) k (carry_direct j f line d g)
+        (is_pattern d || is_punch d) ≡ false → Ran entries_made job (Ok left) (lent_both l t) (lent_both l' t) k (carry_direct j f line d g)
     nothing_counted e = let c : Counting false (carry_direct j f line d g) = rw e at (counting d) in ran_no_hits ran t c.none

@@ -1,70 +1,60 @@
 -- Laws of `ahead`: what is known of a block that is ahead, and of the end.
-use mathlib.Core.Path.{◌≡◌, refl, sym, ap, ◌∙◌}
-use mathlib.Core.Bool.{Bool, true, false}
+use Rattle.std.specs.Prelude.{Option, Some, None}
+use Rattle.std.proofs.lemmas.Option.{none-some, same_Some}
+use mathlib.Core.Path.{◌≡◌, refl, sym, ap, ◌∙◌, subst}
+use mathlib.Core.Bool.{Bool, true, false, cond}
 use mathlib.Core.List.{List}
 use Prim.Native.Nat.{ℕ, ◌+◌, ◌<◌, ◌≤◌}
 use native.Mathlib.Omega.{arith}
 use borrow.Author.Tests.{ltb-true, ltb-false, lt-ltb, le-ltb}
 use lib.Dec.{ltb}
 use lib.ListN.{length, get_or, drop}
-use Rattle.aries.specs.declared.block.Decoded.{Decoded}
+use Rattle.aries.specs.declared.location.Location.{Location}
 use Rattle.aries.specs.declared.reader.Reader.{Reader}
 use Rattle.aries.specs.Text.{line_feed}
-use Rattle.text.specs.Lines.{blanks}
 use Rattle.text.proofs.Lines.{next-stop}
 use Rattle.decode.specs.Decoding.{decoded_at}
 use Rattle.stretches.specs.declared.Ahead.{Ahead}
-use Rattle.stretches.specs.Lookahead.{ahead}
+use Rattle.stretches.specs.Lookahead.{past_blanks, ahead}
 
 -- a block that is ahead of a place between two lines
-pub record Meets (r : Reader) (t : List ℕ) (from first at line : ℕ) (d : Decoded) : Type 0 where
-  pub past : at ≡ from + blanks (drop from t)
-  pub counted : line ≡ first + blanks (drop from t)
-  pub inside : at < length t
-  pub block : get_or t at 0 ≡ line_feed → ⊥
-  pub decoded : decoded_at r t at ≡ d
+pub record Meets (r : Reader) (t : List ℕ) (from : Location) (x : Ahead) : Type 0 where
+  pub past : x.at ≡ past_blanks t from
+  pub inside : x.at.offset < length t
+  pub block : get_or t x.at.offset 0 ≡ line_feed → ⊥
+  pub decoded : x.decoded ≡ decoded_at r t x.at.offset
 
-module _ (r : Reader) (t : List ℕ) (from first : ℕ) where
-  abbrev next : ℕ
-  next = from + blanks (drop from t)
+module _ (r : Reader) (t : List ℕ) (from : Location) where
+  abbrev next : Location
+  next = past_blanks t from
+
+  abbrev found : Ahead
+  found = record { at = next; decoded = decoded_at r t next.offset }
 
   -- whether the text has the place of the next block
-  pub ahead-some : next < length t → ahead r t from first ≡ Ahead.Block next (first + blanks (drop from t)) (decoded_at r t next)
+  pub ahead-some : next.offset < length t → ahead r t from ≡ Some found
   unfolding ahead
-  ahead-some i = rw (lt-ltb next (length t) i) refl
+  ahead-some i = rw (lt-ltb next.offset (length t) i) refl
 
-  pub ahead_none : length t ≤ next → ahead r t from first ≡ Ahead.Nothing
+  pub ahead_none : length t ≤ next.offset → ahead r t from ≡ None
   unfolding ahead
-  ahead_none i = rw (le-ltb next (length t) i) refl
+  ahead_none i = rw (le-ltb next.offset (length t) i) refl
 
-  pub ahead-block : (at line : ℕ) (d : Decoded) → ahead r t from first ≡ Ahead.Block at line d → Meets r t from first at line d
-  ahead-block at line d e = go (ltb next (length t)) refl
-    where
-      go : (b : Bool) → ltb next (length t) ≡ b → Meets r t from first at line d
-      go false p =
-          let z : Ahead.Nothing ≡ Ahead.Block at line d = sym (ahead_none (ltb-false next (length t) p)) ∙ e in
-          let w : ◌≡◌ {A = ℕ} 0 1 = cc in
-          absurd (omega arith)
-      go true p =
-          let i = ltb-true next (length t) p in
-          let z : Ahead.Block next (first + blanks (drop from t)) (decoded_at r t next) ≡ Ahead.Block at line d = sym (ahead-some i) ∙ e in
-          let a : next ≡ at = cc in
-          let l : first + blanks (drop from t) ≡ line = cc in
-          let k : decoded_at r t next ≡ d = cc in
-          record {
-            past = sym a;
-            counted = sym l;
-            inside = omega (arith, a, i);
-            block = next-stop t from at (sym a) (omega (arith, a, i));
-            decoded = ap (decoded_at r t) (sym a) ∙ k;
-          }
+  found_meets : next.offset < length t → Meets r t from found
+  found_meets i = record { past = refl; inside = i; block = next-stop t from.offset next.offset refl i; decoded = refl }
 
-  pub ahead_nothing : ahead r t from first ≡ Ahead.Nothing → length t ≤ next
-  ahead_nothing e = go (ltb next (length t)) refl
+  pub ahead-block : (x : Ahead) → ahead r t from ≡ Some x → Meets r t from x
+  ahead-block x e = go (ltb next.offset (length t)) refl
     where
-      go : (b : Bool) → ltb next (length t) ≡ b → length t ≤ next
-      go false p = ltb-false next (length t) p
+      go : (b : Bool) → ltb next.offset (length t) ≡ b → Meets r t from x
+      go false p = absurd (none-some x (sym (ahead_none (ltb-false next.offset (length t) p)) ∙ e))
       go true p =
-          let z : Ahead.Block next (first + blanks (drop from t)) (decoded_at r t next) ≡ Ahead.Nothing = sym (ahead-some (ltb-true next (length t) p)) ∙ e in
-          let w : ◌≡◌ {A = ℕ} 0 1 = cc in
-          absurd (omega arith)
+          let i = ltb-true next.offset (length t) p in
+          subst (Meets r t from) (same_Some found x (sym (ahead-some i) ∙ e)) (found_meets i)
+
+  pub ahead_nothing : ahead r t from ≡ None → length t ≤ next.offset
+  ahead_nothing e = go (ltb next.offset (length t)) refl
+    where
+      go : (b : Bool) → ltb next.offset (length t) ≡ b → length t ≤ next.offset
+      go false p = ltb-false next.offset (length t) p
+      go true p = absurd (none-some found (sym e ∙ ahead-some (ltb-true next.offset (length t) p)))

@@ -1,7 +1,8 @@
 -- What comes after a stretch: where it is a block, its line ends behind the place where the stretch began, within the text,
 -- and its number goes up with the place.
-use mathlib.Core.Path.{◌≡◌, refl, sym, ap, ◌∙◌}
-use mathlib.Core.Bool.{Bool, true, false, true≢false}
+use Rattle.std.specs.Prelude.{Ok, Err, Option, Some, None}
+use mathlib.Core.Path.{◌≡◌, refl, sym, ap, subst, ◌∙◌}
+use mathlib.Core.Bool.{Bool, true, false}
 use mathlib.Core.List.{List, [], ◌∷◌, head-eq_of_cons-eq, tail-eq_of_cons-eq}
 use Prim.Native.Nat.{ℕ, suc, ◌+◌, ◌<◌, ◌≤◌}
 use native.Mathlib.Omega.{arith}
@@ -10,49 +11,80 @@ use lib.Dec.{ltb}
 use lib.ListN.{length, get_or, drop, length-drop}
 use lib.Seq.{length-take-le, get_or-drop}
 use Rattle.aries.specs.declared.block.Block.{Block}
+use Rattle.aries.specs.declared.location.Location.{Location}
 use Rattle.aries.specs.declared.state.Frame.{Frame}
 use Rattle.aries.specs.declared.state.Progress.{Progress}
-use Rattle.aries.specs.declared.state.Status.{Status}
-use Rattle.aries.specs.declared.state.Status.TheVariants.{Passed}
-use Rattle.aries.specs.Outcome.{Out, done, refused}
-use Rattle.aries.specs.Entries.{Made, adding}
+use Rattle.aries.specs.declared.refusal.Refused.{Refused}
+use Rattle.aries.specs.Outcome.{Out, ◌>>=◌}
+use Rattle.aries.specs.Entries.{Made, adding, and_then, map_after}
 use Rattle.aries.specs.Judging.{Judging}
 use Rattle.aries.specs.Macros.{carry_direct, Begun, begin}
-use Rattle.aries.specs.Runs.{status_of}
 use Rattle.aries.specs.Text.{lines, line_feed}
+use Rattle.aries.specs.Runs.{left_of}
+use Rattle.aries.proofs.Runs.{accepted_as}
 use Rattle.text.specs.Lines.{line_length, line_at, line_end}
 use Rattle.text.proofs.Lines.{line-short, line-inside, feed_after, lines_at, lines-past}
 use Rattle.stretches.specs.declared.Sequel.{Sequel}
-use Rattle.stretches.specs.Stretches.{Stretched, Step, goes, ends, step_of, block_step, begun_step, line_step, onward, stretch, is_end}
+use Rattle.stretches.specs.declared.Sequel.TheVariants as Sequel
+use Rattle.stretches.specs.declared.Stretch.{Stretch}
+use Rattle.stretches.specs.Stretches.{going, block_step, line_step, onward, end_of, behind, stretch}
 
--- a block's line that ends at a place of a text, seen from another place and its line
-pub record Behind (t : List ℕ) (at line end place : ℕ) : Type 0 where
-  pub after : at < end
-  pub inside : end ≤ length t
-  pub paced : place + at ≤ line + end
+-- ---- What is left has a property
 
--- where what comes after lies
-abbrev pub SequelBehind : List ℕ → ℕ → ℕ → Sequel → Type 0
-SequelBehind t at line Sequel.End = Unit {0}
-SequelBehind t at line (Sequel.Call n end place) = Behind t at line end place
-SequelBehind t at line (Sequel.Outside o end place) = Behind t at line end place
+-- of what is left, if it is accepted
+abbrev LeftBy : {A : Type 0} → (A → Type 0) → Out (Made A) → Type 0
+LeftBy P (Ok m) = P m.after
+LeftBy P (Err e) = Unit {0}
+
+pub record Left {A : Type 0} (P : A → Type 0) (x : Out (Made A)) : Type 0 where
+  pub left : LeftBy P x
+
+-- a refusal leaves nothing
+pub left_err : {A : Type 0} {P : A → Type 0} {e : Refused} → Left P (Err e)
+left_err = record { left = tt }
+
+pub left_ok : {A : Type 0} {P : A → Type 0} {m : Made A} → P m.after → Left P (Ok m)
+left_ok h = record { left = h }
+
+-- one thing after the other
+pub left_then :
+    {A : Type 0} {P Q : A → Type 0} (x : Out (Made A)) (f : A → Out (Made A)) → Left P x → ((a : A) → P a → Left Q (f a)) → Left Q (and_then x f)
+left_then (Err e) f h k = left_err
+left_then {Q = Q} (Ok m) f h k = go (f m.after) (k m.after h.left)
+  where
+    go : (y : Out (Made _)) → Left Q y → Left Q (adding m.entries y)
+    go (Ok n) i = record { left = i.left }
+    go (Err e) i = left_err
+
+-- what a function hands back
+pub left_made : {A : Type 0} {P : A → Type 0} (x : Out (Made A)) {a : A} → Ok a ≡ left_of x → Left P x → P a
+left_made {P = P} x {a} e h =
+    let k = accepted_as a x e in
+    subst P k.after_is (subst (λ (y : Out (Made _)). LeftBy P y) k.out_is h.left)
+
+-- ---- Where what comes after lies
+
+-- a line's end in a text, seen from a place
+pub record Behind (t : List ℕ) (at end : Location) : Type 0 where
+  pub after : at.offset < end.offset
+  pub inside : end.offset ≤ length t
+  pub paced : end.line + at.offset ≤ at.line + end.offset
+
+abbrev pub SequelBehind : List ℕ → Location → Option Sequel → Type 0
+SequelBehind t at None = Unit {0}
+SequelBehind t at (Some (Sequel.Call c end)) = Behind t at end
+SequelBehind t at (Some (Sequel.Outside o end)) = Behind t at end
+
+abbrev pub StretchBehind : List ℕ → Location → Stretch → Type 0
+StretchBehind t at s = SequelBehind t at s.sequel
 
 -- from further back
-further : (t : List ℕ) (at line at' line' : ℕ) (s : Sequel) → at ≤ at' → line' + at ≤ line + at' → SequelBehind t at' line' s → SequelBehind t at line s
-further t at line at' line' Sequel.End h k b = tt
-further t at line at' line' (Sequel.Call n end place) h k b = record { after = omega (arith, b.after); inside = b.inside; paced = omega (arith, b.paced) }
-further t at line at' line' (Sequel.Outside o end place) h k b = record { after = omega (arith, b.after); inside = b.inside; paced = omega (arith, b.paced) }
-
--- a step that ends the stretch
-abbrev StepBehind : List ℕ → ℕ → ℕ → Step → Type 0
-StepBehind t at line (goes m) = Unit {0}
-StepBehind t at line (ends s) = SequelBehind t at line s.sequel
-
-onward-behind :
-    (t : List ℕ) (at line : ℕ) (step : Step) (rest : Progress → Stretched) → StepBehind t at line step → ((g : Progress) → SequelBehind t at line (rest g).sequel)
-    → SequelBehind t at line (onward step rest).sequel
-onward-behind t at line (goes m) rest s r = r m.after
-onward-behind t at line (ends s) rest h r = h
+further :
+    (t : List ℕ) (at at' : Location) (s : Option Sequel) → at.offset ≤ at'.offset → at'.line + at.offset ≤ at.line + at'.offset
+    → SequelBehind t at' s → SequelBehind t at s
+further t at at' None h k b = tt
+further t at at' (Some (Sequel.Call c end)) h k b = record { after = omega (arith, b.after); inside = b.inside; paced = omega (arith, b.paced) }
+further t at at' (Some (Sequel.Outside o end)) h k b = record { after = omega (arith, b.after); inside = b.inside; paced = omega (arith, b.paced) }
 
 -- a first line there is lies within the text, and a line feed stands behind it unless the text ends there
 pub first-line :
@@ -78,89 +110,55 @@ first-line t at l ls e = go (ltb at (length t)) refl
 
 module _ (t : List ℕ) (j : Judging) (f : Frame) where
   -- one line
-  line-behind : (at line : ℕ) (l : List ℕ) (g : Progress) → at + length l ≤ length t → StepBehind t at line (line_step j f (at + length l) line l g)
-  line-behind at line [] g h = tt
-  line-behind at line (b ∷ bs) g h = begins (begin j f line (b ∷ bs) g)
+  line-behind : (at : Location) (l : List ℕ) (g : Progress) → at.offset + length l ≤ length t → Left (StretchBehind t at) (line_step j f (end_of at (length l)) l g)
+  line-behind at [] g h = left_ok tt
+  line-behind at (b ∷ bs) g h = begins (begin j f at.line (b ∷ bs) g)
     where
-      behind : Behind t at line (at + length (b ∷ bs)) line
-      behind = record { after = omega arith; inside = h; paced = omega arith }
+      end : Location
+      end = end_of at (length (b ∷ bs))
 
-      carried : (out : Out (Made Progress)) → StepBehind t at line (step_of out)
-      carried (done m) = tt
-      carried (refused number place) = tt
+      here : Behind t at end
+      here = record { after = omega arith; inside = h; paced = omega arith }
 
-      blocks : (d : Block) (g : Progress) → StepBehind t at line (block_step j f (at + length (b ∷ bs)) line d g)
-      blocks (Block.Direct d) g = carried (carry_direct j f line d g)
-      blocks (Block.Call n) g = behind
-      blocks (Block.Outside o) g = behind
+      carried : (x : Out (Made Progress)) → Left (StretchBehind t at) (map_after going x)
+      carried (Ok m) = left_ok tt
+      carried (Err e) = left_err
 
-      begins : (out : Out Begun) → StepBehind t at line (begun_step j f (at + length (b ∷ bs)) line out)
-      begins (refused number place) = tt
-      begins (done x) = blocks x.block x.progress
+      blocks : (d : Block) (g : Progress) → Left (StretchBehind t at) (block_step j f end d g)
+      blocks (Block.Direct d) g = carried (carry_direct j f end.line d g)
+      blocks (Block.Call c) g = left_ok here
+      blocks (Block.Outside o) g = left_ok here
 
-  lines-behind : (ls : List (List ℕ)) (at line : ℕ) (g : Progress) → lines (drop at t) ≡ ls → SequelBehind t at line (stretch j f at line ls g).sequel
+      begins : (x : Out Begun) → Left (StretchBehind t at) (◌>>=◌ x (λ b. block_step j f end b.block b.progress))
+      begins (Err e) = left_err
+      begins (Ok x) = blocks x.block x.progress
+
+  -- and what follows it
+  onward-behind :
+      (at : Location) (rest : Progress → Out (Made Stretch)) (s : Stretch) → StretchBehind t at s → ((g : Progress) → Left (StretchBehind t at) (rest g))
+      → Left (StretchBehind t at) (onward rest s)
+  onward-behind at rest s h k = go s.sequel h
+    where
+      go : (q : Option Sequel) → SequelBehind t at q → Left (StretchBehind t at) (onward rest (record { progress = s.progress; sequel = q }))
+      go None h = k s.progress
+      go (Some q) h = left_ok h
+
+  lines-behind : (ls : List (List ℕ)) (at : Location) (g : Progress) → lines (drop at.offset t) ≡ ls → Left (StretchBehind t at) (stretch j f at ls g)
   unfolding stretch
-  lines-behind [] at line g e = tt
-  lines-behind (l ∷ ls) at line g e =
-      let w = first-line t at l ls e in
-      onward-behind t at line (line_step j f (at + length l) line l g) (stretch j f (at + length l + 1) (suc line) ls) (line-behind at line l g w.0)
-      (λ h. further t at line (at + length l + 1) (suc line) (stretch j f (at + length l + 1) (suc line) ls h).sequel (omega arith) (omega arith) (lines-behind ls (at + length l + 1) (suc line) h w.1))
+  lines-behind [] at g e = left_ok tt
+  lines-behind (l ∷ ls) at g e =
+      let w = first-line t at.offset l ls e in
+      let next = behind (end_of at (length l)) in
+      left_then (line_step j f (end_of at (length l)) l g) _ (line-behind at l g w.0)
+      (λ s h. onward-behind at (stretch j f next ls) s h
+      (λ p. nearer (stretch j f next ls p) next (omega arith) (omega arith) (lines-behind ls next p w.1)))
+    where
+      nearer :
+          (x : Out (Made Stretch)) (at' : Location) → at.offset ≤ at'.offset → at'.line + at.offset ≤ at.line + at'.offset
+          → Left (StretchBehind t at') x → Left (StretchBehind t at) x
+      nearer (Ok m) at' a b h = left_ok (further t at at' m.after.sequel a b h.left)
+      nearer (Err e) at' a b h = left_err
 
   -- the stretch from a place on
-  pub stretch-behind : (at line : ℕ) (g : Progress) → SequelBehind t at line (stretch j f at line (lines (drop at t)) g).sequel
-  stretch-behind at line g = lines-behind (lines (drop at t)) at line g refl
-
--- ---- Nothing follows a refusal
-
-abbrev EndsAs : Out (Made Progress) → Sequel → Type 0
-EndsAs (done m) s = Unit {0}
-EndsAs (refused number line) s = s ≡ Sequel.End
-
-abbrev StepEnds : Step → Type 0
-StepEnds (goes m) = Unit {0}
-StepEnds (ends s) = EndsAs s.made s.sequel
-
-onward-ends :
-    (step : Step) (rest : Progress → Stretched) → StepEnds step → ((g : Progress) → EndsAs (rest g).made (rest g).sequel)
-    → EndsAs (onward step rest).made (onward step rest).sequel
-onward-ends (ends x) rest s r = s
-onward-ends (goes m) rest s r = added (rest m.after).made (rest m.after).sequel (r m.after)
-  where
-    added : (out : Out (Made Progress)) (sequel : Sequel) → EndsAs out sequel → EndsAs (adding m.entries out) sequel
-    added (done n) sequel e = tt
-    added (refused number line) sequel e = e
-
-module _ (j : Judging) (f : Frame) where
-  line-ends_as : (end line : ℕ) (l : List ℕ) (g : Progress) → StepEnds (line_step j f end line l g)
-  line-ends_as end line [] g = tt
-  line-ends_as end line (b ∷ bs) g = begins (begin j f line (b ∷ bs) g)
-    where
-      carried : (out : Out (Made Progress)) → StepEnds (step_of out)
-      carried (done m) = tt
-      carried (refused number place) = refl
-
-      blocks : (d : Block) (h : Progress) → StepEnds (block_step j f end line d h)
-      blocks (Block.Direct d) h = carried (carry_direct j f line d h)
-      blocks (Block.Call n) h = tt
-      blocks (Block.Outside o) h = tt
-
-      begins : (out : Out Begun) → StepEnds (begun_step j f end line out)
-      begins (refused number place) = refl
-      begins (done x) = blocks x.block x.progress
-
-  lines_end_as : (ls : List (List ℕ)) (at line : ℕ) (g : Progress) → EndsAs (stretch j f at line ls g).made (stretch j f at line ls g).sequel
-  unfolding stretch
-  lines_end_as [] at line g = tt
-  lines_end_as (l ∷ ls) at line g =
-      onward-ends (line_step j f (at + length l) line l g) (stretch j f (at + length l + 1) (suc line) ls) (line-ends_as (at + length l) line l g)
-      (lines_end_as ls (at + length l + 1) (suc line))
-
-  -- where something follows, all went well
-  pub stretch-passes :
-      (ls : List (List ℕ)) (at line : ℕ) (g : Progress) {status : Status} → status ≡ status_of (stretch j f at line ls g).made → is_end (stretch j f at line ls g).sequel ≡ false
-      → status ≡ Passed
-  stretch-passes ls at line g e h = e ∙ go (stretch j f at line ls g).made (stretch j f at line ls g).sequel (lines_end_as ls at line g) h
-    where
-      go : (out : Out (Made Progress)) (sequel : Sequel) → EndsAs out sequel → is_end sequel ≡ false → status_of out ≡ Passed
-      go (done m) sequel x h = refl
-      go (refused number place) sequel x h = absurd (true≢false (sym (ap is_end x) ∙ h))
+  pub stretch-behind : (at : Location) (g : Progress) → Left (StretchBehind t at) (stretch j f at (lines (drop at.offset t)) g)
+  stretch-behind at g = lines-behind (lines (drop at.offset t)) at g refl

@@ -1,15 +1,19 @@
 -- What a place between two lines of a text leads to.
-use Rattle.std.specs.Prelude.{cond, List, ℕ, ◌+◌, ltb, length, drop}
+use Rattle.std.specs.Prelude.{cond, List, ℕ, ◌+◌, ltb, length, drop, Option, Some, None}
+use Rattle.aries.specs.declared.location.Location.{Location}
 use Rattle.aries.specs.declared.reader.Reader.{Reader}
 use Rattle.text.specs.Lines.{blanks}
 use Rattle.decode.specs.Decoding.{decoded_at}
 use Rattle.stretches.specs.declared.Ahead.{Ahead}
-use Rattle.stretches.specs.declared.Ahead.TheVariants as Ahead
 
--- a block at a place of a text, in a line with a number, if the text has that place
-abbrev pub block_ahead : Reader → List ℕ → ℕ → ℕ → Ahead
-block_ahead r t at line = cond (ltb at (length t)) (Ahead.Block at line (decoded_at r t at)) Ahead.Nothing
+-- a block at a place of a text, if the text has that place
+abbrev pub block_ahead : Reader → List ℕ → Location → Option Ahead
+block_ahead r t at = cond (ltb at.offset (length t)) (Some (record { at = at; decoded = decoded_at r t at.offset })) None
 
--- from a place on, where the line has a number: past the empty lines, which count as lines
-unfoldable pub ahead : Reader → List ℕ → ℕ → ℕ → Ahead
-ahead r t from first = block_ahead r t (from + blanks (drop from t)) (first + blanks (drop from t))
+-- the place past the empty lines, which count as lines
+abbrev pub past_blanks : List ℕ → Location → Location
+past_blanks t from = record { offset = from.offset + blanks (drop from.offset t); line = from.line + blanks (drop from.offset t) }
+
+-- from a place on: past the empty lines
+unfoldable pub ahead : Reader → List ℕ → Location → Option Ahead
+ahead r t from = block_ahead r t (past_blanks t from)

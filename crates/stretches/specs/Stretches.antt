@@ -1,83 +1,69 @@
 -- Direct blocks one after another: what they make, and at which block they end. They are carried out alike in a body and
 -- outside bodies.
-use Rattle.std.specs.Prelude.{◌≡◌, Bool, true, false, List, [], ◌∷◌, ℕ, suc, ◌+◌, ◌-◌, ◌<◌, length}
-use Rattle.aries.specs.declared.block.Direct.{Direct}
+use Rattle.std.specs.Prelude.{List, [], ◌∷◌, ℕ, suc, ◌+◌, ◌-◌, ◌<◌, length, Option, Some, None}
 use Rattle.aries.specs.declared.block.Block.{Block}
 use Rattle.aries.specs.declared.block.Block.TheVariants as Block
+use Rattle.aries.specs.declared.location.Location.{Location}
 use Rattle.aries.specs.declared.state.Frame.{Frame}
 use Rattle.aries.specs.declared.state.Progress.{Progress}
-use Rattle.aries.specs.Outcome.{Out, done, refused}
-use Rattle.aries.specs.Entries.{Made, no_entry, adding}
+use Rattle.aries.specs.Outcome.{Out, ◌>>=◌}
+use Rattle.aries.specs.Entries.{Made, no_entry, and_then, map_after}
 use Rattle.aries.specs.Judging.{Judging, limits}
 use Rattle.aries.specs.Macros.{carry_direct, Begun, begin}
-use Rattle.aries.specs.Runs.{Lent, Ran, entries_made}
+use Rattle.aries.specs.Runs.{Lent, Ran}
 use Rattle.stretches.specs.declared.Sequel.{Sequel}
 use Rattle.stretches.specs.declared.Sequel.TheVariants as Sequel
 use Rattle.stretches.specs.declared.Stretch.{Stretch}
 
--- what a stretch makes, and what comes after it: after a refusal, nothing
-pub record Stretched : Type 0 where
-  pub made : Out (Made Progress)
-  pub sequel : Sequel
+-- so far, and on
+abbrev pub going : Progress → Stretch
+going g = record { progress = g; sequel = None }
 
-abbrev pub refused_at : ℕ → ℕ → Stretched
-refused_at number line = record { made = refused number line; sequel = Sequel.End }
+-- up to a block that is not direct
+abbrev pub ending_at : Progress → Sequel → Stretch
+ending_at g sequel = record { progress = g; sequel = Some sequel }
 
-abbrev pub ending_with : Progress → Sequel → Stretched
-ending_with g sequel = record { made = no_entry g; sequel = sequel }
-
--- what one line comes to: the stretch goes on past it, or ends
-pub data Step : Type 0 where
-  goes : Made Progress → Step
-  ends : Stretched → Step
-
--- a direct block that was carried out
-abbrev pub step_of : Out (Made Progress) → Step
-step_of (done m) = goes m
-step_of (refused number line) = ends (refused_at number line)
-
--- what comes after it at a block, in a line that ends at a place; at a direct one it does not end
-abbrev pub sequel_at : Block → ℕ → ℕ → Sequel
-sequel_at (Block.Direct d) end line = Sequel.End
-sequel_at (Block.Call c) end line = Sequel.Call c end line
-sequel_at (Block.Outside o) end line = Sequel.Outside o end line
-
--- a block that has begun, in a line that ends at a place
-abbrev pub block_step : Judging → Frame → ℕ → ℕ → Block → Progress → Step
-block_step j f end line (Block.Direct d) g = step_of (carry_direct j f line d g)
-block_step j f end line (Block.Call c) g = ends (ending_with g (Sequel.Call c end line))
-block_step j f end line (Block.Outside o) g = ends (ending_with g (Sequel.Outside o end line))
-
-abbrev pub begun_step : Judging → Frame → ℕ → ℕ → Out Begun → Step
-begun_step j f end line (refused number at) = ends (refused_at number at)
-begun_step j f end line (done b) = block_step j f end line b.block b.progress
+-- a block that has begun, in a line that ends at a place: a direct one is carried out, any other ends the stretch
+abbrev pub block_step : Judging → Frame → Location → Block → Progress → Out (Made Stretch)
+block_step j f end (Block.Direct d) g = map_after going (carry_direct j f end.line d g)
+block_step j f end (Block.Call c) g = no_entry (ending_at g (Sequel.Call c end))
+block_step j f end (Block.Outside o) g = no_entry (ending_at g (Sequel.Outside o end))
 
 -- a line, by the place where it ends; a blank one does nothing
-abbrev pub line_step : Judging → Frame → ℕ → ℕ → List ℕ → Progress → Step
-line_step j f end line [] g = goes (record { entries = []; after = g })
-line_step j f end line (b ∷ bs) g = begun_step j f end line (begin j f line (b ∷ bs) g)
+abbrev pub line_step : Judging → Frame → Location → List ℕ → Progress → Out (Made Stretch)
+line_step j f end [] g = no_entry (going g)
+line_step j f end (b ∷ bs) g = do
+  x ← begin j f end.line (b ∷ bs) g
+  block_step j f end x.block x.progress
 
--- one step, and what follows it
-abbrev pub onward : Step → (Progress → Stretched) → Stretched
-onward (ends s) rest = s
-onward (goes m) rest = record { made = adding m.entries (rest m.after).made; sequel = (rest m.after).sequel }
+-- what follows, unless the stretch has ended
+abbrev pub onward_from : (Progress → Out (Made Stretch)) → Progress → Option Sequel → Out (Made Stretch)
+onward_from rest g None = rest g
+onward_from rest g (Some sequel) = no_entry (ending_at g sequel)
 
--- the lines from a place of the text on, the first with a number, as far as their blocks are direct
-unfoldable pub stretch : Judging → Frame → ℕ → ℕ → List (List ℕ) → Progress → Stretched
-stretch j f at line [] g = ending_with g Sequel.End
-stretch j f at line (l ∷ ls) g = onward (line_step j f (at + length l) line l g) (stretch j f (at + length l + 1) (suc line) ls)
+abbrev pub onward : (Progress → Out (Made Stretch)) → Stretch → Out (Made Stretch)
+onward rest s = onward_from rest s.progress s.sequel
 
--- nothing follows a stretch
-abbrev pub is_end : Sequel → Bool
-is_end Sequel.End = true
-is_end (Sequel.Call c end line) = false
-is_end (Sequel.Outside o end line) = false
+-- the end of a line of a length that starts at a place, and the place behind its line feed
+abbrev pub end_of : Location → ℕ → Location
+end_of from size = record { offset = from.offset + size; line = from.line }
 
--- the numbers of the lines from a place on, the first of which is given, fit 64 bits
-abbrev pub LinesFit : ℕ → ℕ → List ℕ → Type 0
-LinesFit first from t = first + (length t - from) < 18446744073709551616
+abbrev pub behind : Location → Location
+behind end = record { offset = end.offset + 1; line = suc end.line }
 
--- A stretch that was carried out, against the definition: what it made, and what comes after it.
-pub record Stretches (r : Stretch) (f : Frame) (before after : Lent) (g : Progress) (what : Judging → Progress → Stretched) : Type 0 where
-  pub ran : Ran entries_made f.job r.outcome.status r.outcome.progress before after g.entries (what (limits f.job) g).made
-  pub same-sequel : r.sequel ≡ (what (limits f.job) g).sequel
+-- the lines from a place of the text on, as far as their blocks are direct
+unfoldable pub stretch : Judging → Frame → Location → List (List ℕ) → Progress → Out (Made Stretch)
+stretch j f from [] g = no_entry (going g)
+stretch j f from (l ∷ ls) g =
+    and_then (line_step j f (end_of from (length l)) l g) (onward (stretch j f (behind (end_of from (length l))) ls))
+
+-- the numbers of the lines from a place on fit 64 bits
+abbrev pub LinesFit : Location → List ℕ → Type 0
+LinesFit from t = from.line + (length t - from.offset) < 18446744073709551616
+
+abbrev pub entries_of_stretch : Stretch → ℕ
+entries_of_stretch s = s.progress.entries
+
+-- A stretch that was carried out in a frame from a progress on, by what it is under the limits of its job.
+abbrev pub Stretches : Out Stretch → Frame → Lent → Lent → Progress → (Judging → Progress → Out (Made Stretch)) → Type 0
+Stretches r f before after g what = Ran entries_of_stretch f.job r before after g.entries (what (limits f.job) g)

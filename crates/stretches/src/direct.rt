@@ -5,28 +5,33 @@ ghost use Rattle.aries.specs.Steady.{Steady};
 ghost use Rattle.stretches.specs.Plain.{is_pattern, is_punch, keeping};
 
 use aries::block::Direct;
-use aries::state::{Frame, Outcome, Progress, State};
+use aries::refusal::Refused;
+use aries::state::{Frame, Progress, State};
+use press::{entries, moves};
 use tallies::{FIGURES, count_hits};
 
 // Whether a block runs a pattern, new or recalled.
 pub fn is_pattern(block: Direct) -> bool
     ensures { result ≡ is_pattern block }
 {
-    match block {
-        Direct::RunPattern(_, _, _) => true,
-        Direct::Recall(_) => true,
-        _ => false,
-    }
+    matches!(block, Direct::RunPattern(_, _, _) | Direct::Recall(_))
 }
 
-// What a block that runs a pattern leaves.
+// Whether a plain block makes a hit.
+fn is_punch(block: Direct) -> bool
+    ensures { result ≡ is_punch block }
+{
+    matches!(block, Direct::Punch(_, _))
+}
+
+// What a block that runs a pattern leaves, with the list alone.
 fn pattern_outcome(
     list: &mut [i32],
     frame: Frame,
     line: u64,
     block: Direct,
     progress: Progress,
-) -> Outcome
+) -> Result<Progress, Refused>
     requires block_value { is_pattern block ≡ true }
     requires steady { Steady 0 frame }
     ensures { Carried result frame (lent list.old) (lent list.new) progress (λ j. carry_direct j frame line block) }
@@ -36,7 +41,7 @@ fn pattern_outcome(
             patterns::runs::run_pattern(list, frame, line, pattern, tool, memory, progress)
         }
         Direct::Recall(n) => patterns::runs::recall(list, frame, line, n, progress),
-        _ => Outcome::passed(progress),
+        _ => unreachable!(),
     }
 }
 
@@ -48,15 +53,14 @@ pub fn carry_pattern(
     line: u64,
     block: Direct,
     progress: Progress,
-) -> Outcome
+) -> Result<Progress, Refused>
     requires block_value { is_pattern block ≡ true }
     requires steady { Steady 0 frame }
     ensures { Carried result frame (lent_both list.old tally.old) (lent_both list.new tally.new) progress (λ j. carry_direct j frame line block) }
 {
-    let outcome = pattern_outcome(list, frame, line, block, progress);
-    let tool = outcome.progress.state.tool;
-    count_hits(tally, tool, progress.entries, outcome.progress.entries);
-    outcome
+    let left = pattern_outcome(list, frame, line, block, progress)?;
+    count_hits(tally, left.state.tool, progress.entries, left.entries);
+    Ok(left)
 }
 
 // A progress with the pattern memories of the one before, and X and Y as given then.
@@ -65,67 +69,44 @@ fn keeping(before: Progress, left: Progress) -> Progress
 {
     let kept = before.state;
     let memories = kept.memories;
-    let spans = kept.spans;
-    let given = kept.given;
     let state = left.state;
-    let current = state.current;
-    let waiting = state.waiting;
     Progress {
         state: State {
             memories,
-            current,
-            waiting,
+            current: state.current,
+            waiting: state.waiting,
             incremental: state.incremental,
             nibble: state.nibble,
             tool: state.tool,
-            spans,
-            given,
+            spans: kept.spans,
+            given: kept.given,
         },
         blocks: left.blocks,
         entries: left.entries,
     }
 }
 
-// What any other direct block leaves.
+// What any other direct block leaves, with the list alone.
 fn plain_outcome(
     list: &mut [i32],
     frame: Frame,
     line: u64,
     block: Direct,
     progress: Progress,
-) -> Outcome
+) -> Result<Progress, Refused>
     requires block_value { is_pattern block ≡ false }
     requires steady { Steady 0 frame }
     ensures { Carried result frame (lent list.old) (lent list.new) progress (λ j. carry_direct j frame line block) }
 {
     match block {
-        Direct::Punch(axes, tool) => {
-            press::moves::position(list, frame, line, axes, tool, progress)
-        }
-        Direct::Move(axes, tool) => press::moves::move_to(frame, line, axes, tool, progress),
-        Direct::PatternOrigin(axes) => {
-            press::moves::set_pattern_origin(frame, line, axes, progress)
-        }
-        Direct::Stop(optional) => press::entries::stop(list, frame, line, optional, progress),
-        Direct::Lone => {
-            let state = progress.state;
-            Outcome::passed(progress.with_state(state.dropping()))
-        }
-        Direct::Nibble(on) => {
-            let state = progress.state;
-            Outcome::passed(progress.with_state(state.in_mode(on)))
-        }
-        _ => Outcome::passed(progress),
-    }
-}
-
-// Whether a plain block makes a hit.
-fn is_punch(block: Direct) -> bool
-    ensures { result ≡ is_punch block }
-{
-    match block {
-        Direct::Punch(_, _) => true,
-        _ => false,
+        Direct::Punch(axes, tool) => moves::position(list, frame, line, axes, tool, progress),
+        Direct::Move(axes, tool) => moves::move_to(frame, line, axes, tool, progress),
+        Direct::PatternOrigin(axes) => moves::set_pattern_origin(frame, line, axes, progress),
+        Direct::Stop(optional) => entries::stop(list, frame, line, optional, progress),
+        Direct::Lone => Ok(progress.with_state(progress.state.dropping())),
+        Direct::Nibble(on) => Ok(progress.with_state(progress.state.in_mode(on))),
+        Direct::Idle => Ok(progress),
+        Direct::RunPattern(_, _, _) | Direct::Recall(_) => unreachable!(),
     }
 }
 
@@ -139,19 +120,14 @@ pub fn carry_plain(
     line: u64,
     block: Direct,
     progress: Progress,
-) -> Outcome
+) -> Result<Progress, Refused>
     requires block_value { is_pattern block ≡ false }
     requires steady { Steady 0 frame }
     ensures { Carried result frame (lent_both list.old tally.old) (lent_both list.new tally.new) progress (λ j. carry_direct j frame line block) }
 {
-    let outcome = plain_outcome(list, frame, line, block, progress);
+    let left = plain_outcome(list, frame, line, block, progress)?;
     if is_punch(block) {
-        let tool = outcome.progress.state.tool;
-        count_hits(tally, tool, progress.entries, outcome.progress.entries);
+        count_hits(tally, left.state.tool, progress.entries, left.entries);
     }
-    let status = outcome.status;
-    Outcome {
-        status,
-        progress: keeping(progress, outcome.progress),
-    }
+    Ok(keeping(progress, left))
 }

@@ -2,20 +2,19 @@
 #![tactic(auto)]
 
 ghost use Rattle.std.specs.Prelude.{◌≡◌, drop};
-ghost use Rattle.aries.specs.declared.state.Status.TheVariants.{Passed, Refused};
 ghost use Rattle.aries.specs.Reader.{reader_of};
 ghost use Rattle.aries.specs.Runs.{lent_both};
 ghost use Rattle.aries.specs.Steady.{Steady};
 ghost use Rattle.aries.specs.Text.{lines};
-ghost use Rattle.stretches.specs.declared.Sequel.TheVariants.{End};
 ghost use Rattle.stretches.specs.Lookahead.{ahead};
-ghost use Rattle.stretches.specs.Stretches.{stretch, sequel_at, is_end, LinesFit, Stretches};
+ghost use Rattle.stretches.specs.Stretches.{going, ending_at, stretch, LinesFit, Stretches};
 
 use crate::direct::{carry_pattern, carry_plain, is_pattern};
-use aries::block::{Block, Call, Decoded, Outside};
+use aries::block::{Block, Call, Instruction, Outside};
+use aries::location::Location;
 use aries::reader::Reader;
-use aries::refusal;
-use aries::state::{Frame, Outcome, Progress, Status};
+use aries::refusal::{Refusal, Refused};
+use aries::state::{Frame, Progress};
 use tallies::FIGURES;
 
 pub mod direct; // one direct block
@@ -24,159 +23,111 @@ pub mod direct; // one direct block
 pub const MOST_BLOCKS: u32 = 100_000;
 
 // The first byte of V lines, which are not counted.
-const LETTER_V: u8 = b'V';
+pub const LETTER_V: u8 = b'V';
 
-// What comes after a stretch: nothing, at the end of the text or at a refusal; or a block that is not direct, with the place
-// where its line ends and the number of that line.
+// A block that is not direct, and where its line ends.
 #[derive(Clone, Copy)]
 pub enum Sequel {
-    End,
-    Call(Call, usize, u64),
-    Outside(Outside, usize, u64),
+    Call(Call, Location),
+    Outside(Outside, Location),
 }
 
-impl Sequel {
-    // A block that is not direct, in a line that ends at a place and has a number.
-    fn at(block: Block, end: usize, line: u64) -> Sequel
-        ensures { result ≡ sequel_at block end line }
-    {
-        match block {
-            Block::Direct(_) => Sequel::End,
-            Block::Call(call) => Sequel::Call(call, end, line),
-            Block::Outside(outside) => Sequel::Outside(outside, end, line),
-        }
-    }
-
-    // Whether nothing follows.
-    pub fn is_end(self) -> bool
-        ensures { result ≡ is_end self }
-    {
-        match self {
-            Sequel::End => true,
-            Sequel::Call(_, _, _) => false,
-            Sequel::Outside(_, _, _) => false,
-        }
-    }
-}
-
-// What a stretch leaves. A block that comes after it has begun. After a refusal the progress is of no account.
+// What a stretch leaves, and the block that comes after it, which has begun; none at the end of the text.
 #[derive(Clone, Copy)]
 pub struct Stretch {
-    pub outcome: Outcome,
-    pub sequel: Sequel,
+    pub progress: Progress,
+    pub sequel: Option<Sequel>,
 }
 
 impl Stretch {
-    // All went well up to the end.
-    fn passed(progress: Progress, sequel: Sequel) -> Stretch
-        ensures { result ≡ record { outcome = record { status = Passed; progress = progress }; sequel = sequel } }
+    // Up to the end of the text.
+    fn going(progress: Progress) -> Stretch
+        ensures { result ≡ going progress }
     {
         Stretch {
-            outcome: Outcome {
-                status: Status::Passed,
-                progress,
-            },
-            sequel,
+            progress,
+            sequel: None,
         }
     }
 
-    // A refusal, at a line.
-    fn refused(number: u8, line: u64, progress: Progress) -> Stretch
-        ensures { result ≡ record { outcome = record { status = Refused number line; progress = progress }; sequel = End } }
+    // Up to a block that is not direct.
+    fn ending_at(progress: Progress, sequel: Sequel) -> Stretch
+        ensures { result ≡ ending_at progress sequel }
     {
         Stretch {
-            outcome: Outcome {
-                status: Status::Refused(number, line),
-                progress,
-            },
-            sequel: Sequel::End,
+            progress,
+            sequel: Some(sequel),
         }
     }
 }
 
-// What a place between two lines leads to: past the line feeds there, the place of a block, the number of its line and what
-// the line comes to; or nothing.
+// A block: where its line starts, and what decoding the line answers.
 #[derive(Clone, Copy)]
-pub enum Ahead {
-    Nothing,
-    Block(usize, u64, Decoded),
+pub struct Ahead {
+    pub at: Location,
+    pub decoded: Result<(Instruction, usize), Refusal>,
 }
 
-// Looks for the next block from a place of the text on, where the line has a number, and decodes it.
-pub fn look_ahead(reader: Reader, text: &[u8], from: usize, first: u64) -> Ahead
-    requires { LinesFit first from text.now }
-    ensures { result ≡ ahead reader text.now from first }
+// The next block from a place between two lines on, past the line feeds there, decoded; or none.
+pub fn look_ahead(reader: Reader, text: &[u8], from: Location) -> Option<Ahead>
+    requires { LinesFit from text.now }
+    ensures { result ≡ ahead reader text.now from }
 {
-    let at = text::next_block(text, from);
-    if text.len() <= at {
-        return Ahead::Nothing;
+    let offset = text::next_block(text, from.offset);
+    if text.len() <= offset {
+        return None;
     }
-    let decoded = decode::decode(reader, text, at);
-    Ahead::Block(at, first + ((at - from) as u64), decoded)
+    let at = Location {
+        offset,
+        line: from.line + ((offset - from.offset) as u64),
+    };
+    Some(Ahead {
+        at,
+        decoded: decode::decode(reader, text, offset),
+    })
 }
 
-// The direct blocks from a place of the text on, where the line has a number, the first of them decoded already: up to a
-// refusal, a block that is not direct or the end of the text.
+// The direct blocks from a place of the text on, the first of them decoded already: up to a refusal, a block that is not direct or
+// the end of the text.
 pub fn run_stretch(
     list: &mut [i32],
     tally: &mut [u64; FIGURES],
     text: &[u8],
-    from: usize,
-    first: u64,
-    start: Ahead,
+    from: Location,
+    start: Option<Ahead>,
     frame: Frame,
     progress: Progress,
-) -> Stretch
-    requires lines_fit { LinesFit first from text.now }
-    requires start_value { start ≡ ahead (reader_of frame progress.state) text.now from first }
+) -> Result<Stretch, Refused>
+    requires lines_fit { LinesFit from text.now }
+    requires start_value { start ≡ ahead (reader_of frame progress.state) text.now from }
     requires steady { Steady 0 frame }
-    ensures { Stretches result frame (lent_both list.old tally.old) (lent_both list.new tally.new) progress (λ j. stretch j frame from first (lines (drop from text.now))) }
+    ensures { Stretches result frame (lent_both list.old tally.old) (lent_both list.new tally.new) progress (λ j. stretch j frame from (lines (drop from.offset text.now))) }
 {
     let mut now = progress;
-    // what is ahead, and the place and line from which it was looked for
-    let mut at = from;
-    let mut line = first;
     let mut next = start;
-    loop {
-        let Ahead::Block(place, number, decoded) = next else {
-            return Stretch::passed(now, Sequel::End);
-        };
-        let counted = text[place] != LETTER_V;
+    while let Some(ahead) = next {
+        let line = ahead.at.line;
+        let counted = text[ahead.at.offset] != LETTER_V;
         if counted & (MOST_BLOCKS <= now.blocks) {
-            return Stretch::refused(refusal::BLOCKS_SPENT, number, now);
+            return Err(Refusal::BlocksSpent.at(line));
         }
-        match decoded {
-            Decoded::Refused(refusal) => {
-                return Stretch::refused(refusal, number, now);
+        let (instruction, offset) = ahead.decoded.map_err(|refusal| refusal.at(line))?;
+        let end = Location { offset, line };
+        let begun = now.begun(counted, instruction.measure);
+        let direct = match instruction.block {
+            Block::Direct(direct) => direct,
+            Block::Call(call) => return Ok(Stretch::ending_at(begun, Sequel::Call(call, end))),
+            Block::Outside(outside) => {
+                return Ok(Stretch::ending_at(begun, Sequel::Outside(outside, end)));
             }
-            Decoded::Instruction(instruction, end) => {
-                let measure = instruction.measure;
-                let block = instruction.block;
-                let begun = now.begun(counted, measure);
-                let Block::Direct(direct) = block else {
-                    return Stretch::passed(begun, Sequel::at(block, end, number));
-                };
-                // apart, so that what a plain block leaves is not put down as a whole
-                if is_pattern(direct) {
-                    let outcome = carry_pattern(list, tally, frame, number, direct, begun);
-                    let status = outcome.status;
-                    now = outcome.progress;
-                    if let Status::Refused(refusal, place) = status {
-                        return Stretch::refused(refusal, place, now);
-                    }
-                } else {
-                    let outcome = carry_plain(list, tally, frame, number, direct, begun);
-                    let status = outcome.status;
-                    now = outcome.progress;
-                    if let Status::Refused(refusal, place) = status {
-                        return Stretch::refused(refusal, place, now);
-                    }
-                }
-                at = end;
-                line = number;
-                let given = now.state.given;
-                next = look_ahead(frame.reader(given), text, at, line);
-            }
+        };
+        // apart, so that what a plain block leaves is not put down as a whole
+        if is_pattern(direct) {
+            now = carry_pattern(list, tally, frame, line, direct, begun)?;
+        } else {
+            now = carry_plain(list, tally, frame, line, direct, begun)?;
         }
+        next = look_ahead(frame.reader(now.state.given), text, end);
     }
+    Ok(Stretch::going(now))
 }

@@ -1,3 +1,2 @@
-pub mod Numbers
-pub mod Rows
 pub mod Tables
+pub mod Parts

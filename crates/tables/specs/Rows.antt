@@ -1,39 +1,38 @@
 -- Lines of a table: blank ones and rows.
-use Rattle.std.specs.Prelude.{Bool, true, false, cond, ◌&&◌, List, [], ◌∷◌, ℕ, suc, ◌+◌, eqb, ltb, length, drop}
+use Rattle.std.specs.Prelude.{Bool, cond, List, ℕ, eqb, length, drop, get_or, Option, Some, None}
+use Rattle.std.specs.List.{take_while}
 use Rattle.aries.specs.Text.{space}
-use Rattle.tables.specs.declared.number.Field.{Field}
 use Rattle.tables.specs.declared.row.Row.{Row}
-use Rattle.tables.specs.Numbers.{length_at, tool_at}
+use Rattle.tables.specs.Numbers.{length_of, tool_of}
 
--- the spaces at the front
-unfoldable pub spaces : List ℕ → ℕ
-spaces [] = 0
-spaces (b ∷ bs) = cond (eqb b space) (suc (spaces bs)) 0
+-- how many spaces stand at the front of a line
+abbrev pub spaces : List ℕ → ℕ
+spaces line = length (take_while (λ b. eqb b space) line)
 
--- the place past the spaces at a place
-abbrev pub past : List ℕ → ℕ → ℕ
-past line at = at + spaces (drop at line)
+-- a line without them
+abbrev pub past_spaces : List ℕ → List ℕ
+past_spaces line = drop (spaces line) line
 
--- a line from its length and the three numbers, with where each of them starts and where the spaces behind them end
-abbrev pub row_from : ℕ → ℕ → Field → ℕ → Field → ℕ → Field → ℕ → Row
-row_from size first x second y third tool last =
-    record {
-      blank = eqb first size;
-      good = ((ltb x.end second && ltb y.end third) && ((x.good && y.good) && tool.good)) && eqb last size;
-      x = x.value;
-      y = y.value;
-      tool = tool.value;
-    }
+-- the same of a line that starts with a space
+abbrev pub parted : List ℕ → Option (List ℕ)
+parted line = cond (eqb (get_or line 0 0) space) (Some (past_spaces line)) None
 
--- A row is a length, a length and a tool, with spaces between them; there may be more in front and behind. A blank line has
--- spaces only.
-unfoldable pub row_of : List ℕ → Row
-unfolding length_at tool_at spaces
-row_of line =
-    let first : ℕ = past line 0 in
-    let x : Field = length_at line first in
-    let second : ℕ = past line x.end in
-    let y : Field = length_at line second in
-    let third : ℕ = past line y.end in
-    let tool : Field = tool_at line third in
-    row_from (length line) first x second y third tool (past line tool.end)
+-- A blank line has spaces only.
+abbrev pub is_blank : List ℕ → Bool
+is_blank line = eqb (length (past_spaces line)) 0
+
+-- what is read next, if something was read
+abbrev pub ◌>>=◌ : {A B : Type 0} → Option A → (A → Option B) → Option B
+◌>>=◌ None next = None
+◌>>=◌ (Some a) next = next a
+
+-- A row is a length, a length and a tool, with spaces between them; there may be more in front and behind.
+unfoldable pub row_of : List ℕ → Option Row
+unfolding length_of tool_of
+row_of line = do
+  (x, rest) ← length_of (past_spaces line)
+  from_y ← parted rest
+  (y, rest) ← length_of from_y
+  from_tool ← parted rest
+  (tool, rest) ← tool_of from_tool
+  cond (is_blank rest) (Some (record { x = x; y = y; tool = tool })) None

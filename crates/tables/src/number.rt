@@ -1,117 +1,69 @@
-// Numbers of a line: lengths in millimetres and tools, each read at a place.
-ghost use Rattle.std.specs.Prelude.{◌≡◌, cond, ◌+◌, ◌*◌, ◌≤◌, ◌<◌, eqb, length, drop, get_or};
-ghost use Rattle.aries.specs.Text.{is_digit};
-ghost use Rattle.aries.specs.Words.{digits, is_sign};
-ghost use Rattle.tables.specs.Numbers.{held, field_of, length_at, tool_at};
+// Numbers at the front of a line: lengths in millimetres and tools, each with the rest of the line.
+ghost use Rattle.std.specs.Prelude.{◌≡◌, ◌^◌, ◌≤◌, ◌<◌};
+ghost use Rattle.words.specs.Digits.{meant};
+ghost use Rattle.tables.specs.Numbers.{found, front_digits, without_sign, with_decimals, length_of, tool_of};
 
 use signed::with_sign;
+use words::digits::{Digits, byte_at, hundredths_of, is_sign, read_digits};
 
-// Digits that were read: their value and how many they are.
-#[derive(Clone, Copy)]
-struct Digits {
-    value: u32,
-    count: usize,
-}
-
-// A number that was read at a place: whether one stands there, its value and the place past it.
-#[derive(Clone, Copy)]
-pub struct Field {
-    pub good: bool,
-    pub value: i32,
-    pub end: usize,
-}
-
-// The byte at a place, 0 past the end.
-fn byte_at(line: &[u8], at: usize) -> u8
-    ensures { result ≡ get_or line.now at 0 }
-{
-    if at < line.len() { line[at] } else { 0 }
-}
-
-// One of 0 to 9.
-fn is_digit(b: u8) -> bool
-    ensures { result ≡ is_digit b }
-{
-    (b'0' <= b) & (b <= b'9')
-}
-
-// Plus or minus.
-fn is_sign(b: u8) -> bool
-    ensures { result ≡ is_sign b }
-{
-    (b == b'+') | (b == b'-')
-}
-
-// How many bytes stand before the digits: the sign if the byte is one.
-fn sign_size(b: u8) -> usize
-    ensures { result ≡ cond (is_sign b) 1 0 }
-{
-    if is_sign(b) { 1 } else { 0 }
-}
-
-// The digits at a place, at most so many.
-fn read_digits(line: &[u8], from: usize, most: usize) -> Digits
+// The digits at the front of a line, at most so many, and the rest of the line.
+fn front_digits(line: &[u8], most: usize) -> (Digits, &[u8])
     requires { most ≤ 4 }
-    ensures { result ≡ held (digits most 0 0 (drop from line.now)) }
+    ensures read { (meant result.0, result.1.now) ≡ front_digits most line.now }
+    ensures small { result.0.value < 10 ^ most }
 {
-    let mut value: u32 = 0;
-    let mut count = 0;
-    while count < most {
-        let b = byte_at(line, from + count);
-        if !is_digit(b) {
-            return Digits { value, count };
-        }
-        value = value * 10 + ((b - b'0') as u32);
-        count += 1;
-    }
-    Digits { value, count }
+    let digits = read_digits(line, 0, most);
+    (digits, &line[digits.count..])
 }
 
-// Hundredths of a length: its digits before the point, and one or two after it, or none.
-fn hundredths_of(whole: u32, decimals: Digits) -> u32
-    requires { (whole < 10000) × (decimals.value < 100) }
-    ensures { result ≡ whole * 100 + decimals.value * cond (eqb decimals.count 1) 10 1 }
+// A line without the sign at its front, if one stands there.
+fn without_sign(line: &[u8]) -> &[u8]
+    ensures { result.now ≡ without_sign line.now }
 {
-    if decimals.count == 1 {
-        whole * 100 + decimals.value * 10
+    if is_sign(byte_at(line, 0)) {
+        &line[1..]
     } else {
-        whole * 100 + decimals.value
+        line
     }
 }
 
-// A number of a size, with a minus or without, and the place past it.
-fn field_of(good: bool, minus: bool, size: u32, end: usize) -> Field
-    requires { size < 1000000 }
-    ensures { result ≡ field_of good minus size end }
+// The size of a length in hundredths of a millimetre, from its digits before the point and what stands behind them, and the
+// rest of the line.
+fn with_decimals(whole: Digits, line: &[u8]) -> (u32, &[u8])
+    requires { whole.value < 10000 }
+    ensures read { (result.0, result.1.now) ≡ with_decimals (meant whole) line.now }
+    ensures small { result.0 < 2 ^ 31 }
 {
-    let value = with_sign(minus, size);
-    Field { good, value, end }
-}
-
-// The length at a place.
-pub fn length_at(line: &[u8], at: usize) -> Field
-    requires { at ≤ length line.now }
-    ensures { result ≡ length_at line.now at }
-{
-    let sign = byte_at(line, at);
-    let from = at + sign_size(sign);
-    let whole = read_digits(line, from, 4);
-    let end = from + whole.count;
-    let minus = sign == b'-';
-    let good = 1 <= whole.count;
-    if byte_at(line, end) != b'.' {
-        return field_of(good, minus, whole.value * 100, end);
+    if byte_at(line, 0) != b'.' {
+        return (whole.value * 100, line);
     }
-    let decimals = read_digits(line, end + 1, 2);
-    let value = hundredths_of(whole.value, decimals);
-    field_of(good, minus, value, end + 1 + decimals.count)
+    let (decimals, rest) = front_digits(&line[1..], 2);
+    (hundredths_of(whole.value, decimals), rest)
 }
 
-// The tool at a place.
-pub fn tool_at(line: &[u8], at: usize) -> Field
-    requires { at ≤ length line.now }
-    ensures { result ≡ tool_at line.now at }
+// The length at the front of a line, and the rest of the line. Inlined, since that is faster by a tenth.
+#[inline(always)]
+#[tactic(auto, unfolding(crate::specs::Numbers::length_of))]
+pub fn read_length(line: &[u8]) -> Option<(i32, &[u8])>
+    ensures { found result ≡ length_of line.now }
 {
-    let number = read_digits(line, at, 2);
-    field_of(1 <= number.value, false, number.value, at + number.count)
+    let minus = byte_at(line, 0) == b'-';
+    let (whole, rest) = front_digits(without_sign(line), 4);
+    if whole.count == 0 {
+        return None;
+    }
+    let (size, rest) = with_decimals(whole, rest);
+    Some((with_sign(minus, size), rest))
+}
+
+// The tool at the front of a line, and the rest of the line.
+#[tactic(auto, unfolding(crate::specs::Numbers::tool_of))]
+pub fn read_tool(line: &[u8]) -> Option<(i32, &[u8])>
+    ensures { found result ≡ tool_of line.now }
+{
+    let (number, rest) = front_digits(line, 2);
+    if number.value == 0 {
+        return None;
+    }
+    Some((number.value as i32, rest))
 }

@@ -1,53 +1,54 @@
 // A row of a table: a length, a length and a tool, parted by spaces.
-ghost use Rattle.std.specs.Prelude.{◌≡◌, ◌+◌, drop};
-ghost use Rattle.tables.specs.Rows.{spaces, row_of};
+ghost use Rattle.std.specs.Prelude.{◌≡◌};
+ghost use Rattle.std.specs.Option.{option_copied};
+ghost use Rattle.tables.specs.Rows.{past_spaces, parted, is_blank, row_of};
 
-use crate::number::{length_at, tool_at};
+use crate::number::{read_length, read_tool};
 
-const SPACE: u8 = 32;
-
-// A line that was read: whether it is blank, whether it is a row, and its X, Y and tool.
+// A row that was read.
 #[derive(Clone, Copy)]
 pub struct Row {
-    pub blank: bool,
-    pub good: bool,
     pub x: i32,
     pub y: i32,
     pub tool: i32,
 }
 
-// The place past the spaces at a place. A place past the end stays.
-fn skip_spaces(line: &[u8], from: usize) -> usize
-    ensures { result ≡ from + spaces (drop from line.now) }
+// A line without the spaces at its front.
+fn past_spaces(line: &[u8]) -> &[u8]
+    ensures { result.now ≡ past_spaces line.now }
 {
-    let mut i = from;
-    while i < line.len() {
-        if line[i] != SPACE {
-            return i;
-        }
-        i += 1;
-    }
-    i
+    let spaces = line.iter().take_while(|b| **b == b' ').count();
+    &line[spaces..]
 }
 
-// Reads a line.
-pub fn read_row(line: &[u8]) -> Row
+// A line without the spaces at its front, of which there is at least one.
+fn parted(line: &[u8]) -> Option<&[u8]>
+    ensures { option_copied result ≡ parted line.now }
+{
+    match line {
+        [b' ', ..] => Some(past_spaces(line)),
+        _ => None,
+    }
+}
+
+// Whether a line has no bytes but spaces.
+pub fn is_blank(line: &[u8]) -> bool
+    ensures { result ≡ is_blank line.now }
+{
+    past_spaces(line).is_empty()
+}
+
+// Reads a row from a line.
+#[tactic(auto, unfolding(crate::specs::Rows::row_of))]
+pub fn read_row(line: &[u8]) -> Option<Row>
     ensures { result ≡ row_of line.now }
 {
-    let first = skip_spaces(line, 0);
-    let x = length_at(line, first);
-    let second = skip_spaces(line, x.end);
-    let y = length_at(line, second);
-    let third = skip_spaces(line, y.end);
-    let tool = tool_at(line, third);
-    let last = skip_spaces(line, tool.end);
-    let parted = (x.end < second) & (y.end < third);
-    let good = x.good & y.good & tool.good;
-    Row {
-        blank: first == line.len(),
-        good: parted & good & (last == line.len()),
-        x: x.value,
-        y: y.value,
-        tool: tool.value,
+    let (x, rest) = read_length(past_spaces(line))?;
+    let (y, rest) = read_length(parted(rest)?)?;
+    let (tool, rest) = read_tool(parted(rest)?)?;
+    if is_blank(rest) {
+        Some(Row { x, y, tool })
+    } else {
+        None
     }
 }

@@ -1,83 +1,100 @@
 -- Laws of stray bytes and of the bytes other than spaces, at a place of a text; and of copying them.
 -- Assumes nothing.
 use mathlib.Core.Path.{◌≡◌, refl, sym, ap, ◌∙◌}
-use mathlib.Core.Bool.{Bool, true, false, ◌&&◌, true≢false}
+use mathlib.Core.Bool.{Bool, true, false, cond, not, ◌&&◌, and_assoc, and-true, true≢false}
 use mathlib.Core.List.{List, [], ◌∷◌, ◌++◌, append-nil}
-use mathlib.Core.Option.{Option, none, some}
 use Prim.Native.Nat.{ℕ, suc, ◌+◌, ◌≤◌, ◌<◌}
-use native.Mathlib.Nat.{le_refl}
+use native.Mathlib.Nat.{le_refl, add-zero}
 use native.Mathlib.Omega.{arith}
 use native.Mathlib.Numerals.{add-one}
-use lib.Dec.{eqb}
+use lib.Dec.{eqb, ltb, leb-suc-suc}
 use lib.ListN.{length, take, drop, get_or, set, drop_of_length-le}
 use lib.Seq.{drop-cons, take-suc-set, take-set-le, append_snoc, length-take-le}
-use borrow.Author.Tests.{eq-eqb, ne_eqb}
+use borrow.Author.Tests.{eq-eqb, ne_eqb, lt-ltb}
+use Rattle.std.proofs.lemmas.List.Sums.{sum_by-cons}
+use Rattle.std.specs.Prelude.{Some, None, Option}
+use Rattle.std.proofs.lemmas.Option.{cond_some, none-some}
+use Rattle.std.specs.List.{fold, count_by, position, position_or_len}
 use Rattle.aries.specs.Test.{every}
 use Rattle.aries.specs.Text.{space, line_feed, is_allowed, stray_line, without_spaces}
-use Rattle.text.specs.Cleaning.{Clean, Copied, or_zero}
-use Rattle.text.specs.declared.Cleaned.TheVariants.{Stray, Dense}
+use Rattle.text.specs.Cleaning.{Copied}
+use Rattle.text.specs.Lines.{is_feed}
 
 -- ---- whether all bytes are allowed
 
-module _ (t : List ℕ) (i : ℕ) where
-  -- the byte at i, and those after it
-  pub allowed_at :
-      i < length t → every is_allowed (drop i t) ≡ is_allowed (get_or t i 0) && every is_allowed (drop (i + 1) t)
-  allowed_at h =
-      rw (drop-cons t i 0 h, add-one i)
-
-  -- no byte is left
-  pub allowed_past : length t ≤ i → every is_allowed (drop i t) ≡ true
-  allowed_past h = rw (drop_of_length-le t h)
-
-abbrev is_none : Option ℕ → Bool
-is_none none = true
-is_none (some line) = false
+-- taken one by one they are what they are together
+pub allowed_fold : (all : Bool) (t : List ℕ) → fold (λ p b. p && is_allowed b) all t ≡ all && every is_allowed t
+allowed_fold all [] = sym (and-true all)
+allowed_fold all (b ∷ bs) = allowed_fold (all && is_allowed b) bs ∙ and_assoc all (is_allowed b) (every is_allowed bs)
 
 -- they are where none is stray
-allowed_stray : (line : ℕ) (t : List ℕ) → every is_allowed t ≡ is_none (stray_line line t)
+pub stray_none : (line : ℕ) (t : List ℕ) → every is_allowed t ≡ true → stray_line line t ≡ None
 unfolding stray_line
-allowed_stray line [] = refl
-allowed_stray line (b ∷ bs) = go (is_allowed b) (eqb b line_feed) (λ l. allowed_stray l bs)
+stray_none line [] e = refl
+stray_none line (b ∷ bs) e = go (is_allowed b) (eqb b line_feed) e (λ l. stray_none l bs)
   where
     go :
-        (p q : Bool) → ((l : ℕ) → every is_allowed bs ≡ is_none (stray_line l bs))
-        → (p && every is_allowed bs)
-        ≡ is_none (elim p [
-          | false ↦ some line
+        (p q : Bool) → (p && every is_allowed bs) ≡ true → ((l : ℕ) → every is_allowed bs ≡ true → stray_line l bs ≡ None)
+        → ◌≡◌ {A = Option ℕ} (elim p [
+          | false ↦ Some line
           | true ↦ elim q [ true ↦ stray_line (suc line) bs | false ↦ stray_line line bs ]
-        ])
-    go false q rest = refl
-    go true true rest = rest (suc line)
-    go true false rest = rest line
+        ]) None
+    go false q e rest = absurd (true≢false (sym e))
+    go true true e rest = rest (suc line) e
+    go true false e rest = rest line e
 
 -- ---- the first stray byte
 
-module _ (t : List ℕ) (line i : ℕ) where
-  -- a byte at i that is not allowed
-  pub stray_here : i < length t → is_allowed (get_or t i 0) ≡ false → stray_line line (drop i t) ≡ some line
-  unfolding stray_line
-  stray_here h e = rw (drop-cons t i 0 h) (rw (e, stray_line))
+abbrev pub is_stray : ℕ → Bool
+is_stray b = not (is_allowed b)
 
-  -- past a line feed the next line begins
-  pub stray_feed :
-      i < length t → is_allowed (get_or t i 0) ≡ true → get_or t i 0 ≡ line_feed
-      → stray_line line (drop i t) ≡ stray_line (line + 1) (drop (i + 1) t)
-  unfolding stray_line
-  stray_feed h e p =
-      rw (drop-cons t i 0 h, add-one i, add-one line) (rw (e, eq-eqb (get_or t i 0) line_feed p, stray_line))
+-- its line, by the line feeds before its place
+pub stray_at :
+    (line : ℕ) (t : List ℕ)
+    → stray_line line t
+    ≡ cond (ltb (position_or_len is_stray t) (length t)) (Some (line + count_by is_feed (take (position_or_len is_stray t) t))) None
+unfolding stray_line
+stray_at line [] = refl
+stray_at line (b ∷ bs) = go (is_allowed b) (eqb b line_feed) refl (λ l. stray_at l bs)
+  where
+    place : ℕ
+    place = position_or_len is_stray bs
 
-  -- another allowed byte: the same line goes on
-  pub stray_other :
-      i < length t → is_allowed (get_or t i 0) ≡ true → (get_or t i 0 ≡ line_feed → ⊥)
-      → stray_line line (drop i t) ≡ stray_line line (drop (i + 1) t)
-  unfolding stray_line
-  stray_other h e p = rw (drop-cons t i 0 h, add-one i) (rw (e, ne_eqb (get_or t i 0) line_feed p, stray_line))
+    before : ℕ
+    before = count_by is_feed (take place bs)
 
-  -- no byte is left
-  pub stray_past : length t ≤ i → stray_line line (drop i t) ≡ none
-  unfolding stray_line
-  stray_past h = rw (drop_of_length-le t h)
+    go :
+        (p q : Bool) → eqb b line_feed ≡ q
+        → ((l : ℕ) → stray_line l bs ≡ cond (ltb place (length bs)) (Some (l + before)) None)
+        → elim p [
+          | false ↦ Some line
+          | true ↦ elim q [ true ↦ stray_line (suc line) bs | false ↦ stray_line line bs ]
+        ]
+        ≡ cond (ltb (cond (not (not p)) (1 + place) 0) (suc (length bs))) (Some (line + count_by is_feed (take (cond (not (not p)) (1 + place) 0) (b ∷ bs)))) None
+    go false q e rest = simp (lt-ltb 0 (suc (length bs)) (omega arith), add-zero)
+    go true true e rest =
+        let s : 1 + place ≡ suc place = omega arith in
+        let n : suc line + before ≡ line + count_by is_feed (b ∷ take place bs) = simp (sum_by-cons (λ x. cond (is_feed x) 1 0) b (take place bs), e) (omega arith) in
+        let w : ltb (suc place) (suc (length bs)) ≡ ltb place (length bs) = leb-suc-suc (suc place) (length bs) in
+        rest (suc line) ∙ rw (s, w, ← n) refl
+    go true false e rest =
+        let s : 1 + place ≡ suc place = omega arith in
+        let n : line + before ≡ line + count_by is_feed (b ∷ take place bs) = simp (sum_by-cons (λ x. cond (is_feed x) 1 0) b (take place bs), e) (omega arith) in
+        let w : ltb (suc place) (suc (length bs)) ≡ ltb place (length bs) = leb-suc-suc (suc place) (length bs) in
+        rest line ∙ rw (s, w, ← n) refl
+
+-- by what `position` gives
+pub place_found : (t : List ℕ) (i : ℕ) → position is_stray t ≡ Some i → Some (1 + count_by is_feed (take i t)) ≡ stray_line 1 t
+place_found t i e =
+    let p = cond_some (ltb (position_or_len is_stray t) (length t)) (position_or_len is_stray t) i e in
+    sym (stray_at 1 t ∙ rw (p.0, p.1) refl)
+
+pub place_none : (t : List ℕ) → position is_stray t ≡ None → None ≡ stray_line 1 t
+place_none t e = go (ltb (position_or_len is_stray t) (length t)) refl
+  where
+    go : (b : Bool) → ltb (position_or_len is_stray t) (length t) ≡ b → None ≡ stray_line 1 t
+    go true f = absurd (none-some (position_or_len is_stray t) (sym e ∙ rw f refl))
+    go false f = sym (stray_at 1 t ∙ rw f refl)
 
 -- ---- the bytes other than spaces
 
@@ -133,31 +150,6 @@ module _ (t buffer : List ℕ) (i n : ℕ) where
       ∙ whole in
       let e : n ≡ length (without_spaces t) = sym (length-take-le n buffer k) ∙ ap length d in
       record { counted = e; copied = rw (← e) d }
-
--- ---- the contract's two cases
-
--- with a stray byte
-pub stray_cleaned :
-    (t buffer : List ℕ) (line : ℕ) → every is_allowed t ≡ false → line ≡ or_zero (stray_line 1 t) → Clean t (Stray line) buffer
-stray_cleaned t buffer line f e = go (stray_line 1 t) refl
-  where
-    go : (o : Option ℕ) → stray_line 1 t ≡ o → Clean t (Stray line) buffer
-    go none p = absurd (true≢false (sym (allowed_stray 1 t ∙ ap is_none p) ∙ f))
-    go (some l) p =
-        let z : line ≡ l = e ∙ ap or_zero p in
-        record {
-          answered = rw p (ap Stray z);
-          copied = λ q. let z : ◌≡◌ {A = ℕ} 0 1 = cc in absurd (omega arith);
-        }
-
--- with none
-pub dense_cleaned :
-    (t buffer : List ℕ) (n : ℕ) → every is_allowed t ≡ true → Copied t n buffer → Clean t (Dense n) buffer
-dense_cleaned t buffer n f h = go (stray_line 1 t) refl
-  where
-    go : (o : Option ℕ) → stray_line 1 t ≡ o → Clean t (Dense n) buffer
-    go none p = record { answered = rw p (ap Dense h.counted); copied = λ q. h.copied }
-    go (some l) p = absurd (true≢false (sym f ∙ allowed_stray 1 t ∙ ap is_none p))
 
 -- a text is not longer without its spaces
 pub dense_short : (t : List ℕ) → length (without_spaces t) ≤ length t

@@ -1,125 +1,80 @@
 -- Laws of lines: how long the line at a place is, the lines from a place on, how many they are, and the empty ones at
 -- the front. Assumes nothing.
 use mathlib.Core.Path.{◌≡◌, refl, sym, ap, ◌∙◌, subst}
-use mathlib.Core.Bool.{Bool, true, false, not, ◌&&◌}
+use mathlib.Core.Bool.{Bool, true, false, not, cond}
 use mathlib.Core.List.{List, [], ◌∷◌, ◌++◌}
-use Prim.Native.Nat.{ℕ, zero, suc, ◌+◌, ◌≤◌, ◌<◌}
-use native.Mathlib.Nat.{add-zero, not-suc-le-zero}
+use Prim.Native.Nat.{ℕ, zero, suc, ◌+◌, ◌-◌, ◌*◌, ◌≤◌, ◌<◌}
+use native.Mathlib.Nat.{not-suc-le-zero}
 use native.Mathlib.Omega.{arith}
-use native.Mathlib.Numerals.{add-one}
-use lib.Dec.{leb, eqb, leb-zero, leb-suc-zero, leb-suc-suc}
+use mir.Val.{bool_byte}
+use lib.Dec.{ltb, eqb}
 use lib.ListN.{length, take, drop, get_or, replicate, drop_of_length-le, length-drop}
 use lib.Seq.{drop-cons, drop-drop, get_or-drop}
-use borrow.Author.Tests.{eq-eqb, ne_eqb, eqb-true, eqb-false, le-leb, not-true}
+use borrow.Author.Tests.{eq-eqb, ne_eqb, eqb-true, eqb-false, not-true, ltb-false}
 use Rattle.aries.specs.Text.{line_feed, lines, into_first}
-use Rattle.text.specs.Lines.{count_until, is_feed, is_other, line_length, line_at, blanks}
+use Rattle.std.specs.List.{count_by, position, position_or_len, prefix_len}
+use Rattle.std.specs.Prelude.{Option}
+use Rattle.std.specs.Option.{unwrap_or}
+use Rattle.std.specs.Simd.{first_chunks}
+use Rattle.std.specs.Cmp.Lexicographic.{pointwise}
+use Rattle.std.specs.Prelude.{nat_eq}
+use Rattle.std.proofs.lemmas.List.Sums.{sum_by-cons, prefix_len-drop_yes, prefix_len-drop_no, prefix_len-drop_all, prefix_len-le-length, passes_at_first}
+use Rattle.std.proofs.lemmas.Slice.Eq.{bytes_eq-Decides}
+use Rattle.std.proofs.lemmas.List.{take-append-drop}
+use Rattle.text.specs.Lines.{is_feed, is_other, ends_open, line_length, line_at, blanks}
 
--- ---- the bytes before the first that passes a test
+-- ---- the first place that passes a test
 
-module _ (test : ℕ → Bool) where
-  until_here : (b : ℕ) (bs : List ℕ) → test b ≡ true → count_until test (b ∷ bs) ≡ 0
-  unfolding count_until
-  until_here b bs e = rw (e, count_until)
-
-  until_later : (b : ℕ) (bs : List ℕ) → test b ≡ false → count_until test (b ∷ bs) ≡ suc (count_until test bs)
-  unfolding count_until
-  until_later b bs e = rw (e, count_until)
-
-  -- there are no more than all
-  until_short : (t : List ℕ) → count_until test t ≤ length t
-  unfolding count_until
-  until_short [] = omega arith
-  until_short (b ∷ bs) = go (test b) refl (until_short bs)
-    where
-      go : (p : Bool) → test b ≡ p → count_until test bs ≤ length bs → count_until test (b ∷ bs) ≤ suc (length bs)
-      go true e h = rw (until_here b bs e) (omega arith)
-      go false e h = rw (until_later b bs e) (omega arith)
-
-  -- without the first n of them so many fewer are left
-  until_drop : (t : List ℕ) (n : ℕ) → n ≤ count_until test t → count_until test t ≡ n + count_until test (drop n t)
-  unfolding count_until
-  until_drop t zero h = omega arith
-  until_drop [] (suc n) h = absurd (not-suc-le-zero h)
-  until_drop (b ∷ bs) (suc n) h = go (test b) refl (until_drop bs n)
-    where
-      go :
-          (p : Bool) → test b ≡ p → (n ≤ count_until test bs → count_until test bs ≡ n + count_until test (drop n bs))
-          → count_until test (b ∷ bs) ≡ suc n + count_until test (drop n bs)
-      go true e rest = absurd (omega (arith, until_here b bs e))
-      go false e rest = rw (until_later b bs e) (omega (arith, rest (omega (arith, until_later b bs e))))
-
-  -- the byte after them passes
-  until_stop : (t : List ℕ) → count_until test t < length t → test (get_or t (count_until test t) 0) ≡ true
-  unfolding count_until
-  until_stop [] h = absurd (not-suc-le-zero h)
-  until_stop (b ∷ bs) h = go (test b) refl (until_stop bs)
-    where
-      go :
-          (p : Bool) → test b ≡ p → (count_until test bs < length bs → test (get_or bs (count_until test bs) 0) ≡ true)
-          → test (get_or (b ∷ bs) (count_until test (b ∷ bs)) 0) ≡ true
-      go true e rest = rw (until_here b bs e) e
-      go false e rest = rw (until_later b bs e) (rest (omega (arith, until_later b bs e)))
-
-  module _ (t : List ℕ) (i : ℕ) where
-    -- the byte at i passes
-    until_ends : i < length t → test (get_or t i 0) ≡ true → count_until test (drop i t) ≡ 0
-    until_ends h e = rw (drop-cons t i 0 h) (until_here (get_or t i 0) (drop (suc i) t) e)
-
-    -- it does not: one more than from the next place
-    until_goes_on :
-        i < length t → test (get_or t i 0) ≡ false → count_until test (drop i t) ≡ suc (count_until test (drop (i + 1) t))
-    until_goes_on h e = rw (add-one i, drop-cons t i 0 h) (until_later (get_or t i 0) (drop (suc i) t) e)
-
-    -- no byte at i
-    until_past : length t ≤ i → count_until test (drop i t) ≡ 0
-    unfolding count_until
-    until_past h = rw (drop_of_length-le t h)
-
-    -- from a place within the text they end within it
-    until_inside : i ≤ length t → i + count_until test (drop i t) ≤ length t
-    until_inside h = omega (arith, until_short (drop i t), length-drop i t)
+-- `position` and then `unwrap_or` at the length give it, or the length
+pub first_place :
+    {X : Type 0} (p : X → Bool) (xs : List X) {found : Option ℕ} {n size : ℕ} → found ≡ position p xs → n ≡ unwrap_or found size → size ≡ length xs
+    → n ≡ position_or_len p xs
+first_place p xs {n = n} e u l = go (ltb (position_or_len p xs) (length xs)) refl
+  where
+    go : (b : Bool) → ltb (position_or_len p xs) (length xs) ≡ b → n ≡ position_or_len p xs
+    go true f = rw (u, e, f) refl
+    go false f = rw (u, e, f) (omega (arith, ltb-false (position_or_len p xs) (length xs) f, prefix_len-le-length (λ x. not (p x)) xs))
 
 -- ---- a line
 
 length_feed : (b : ℕ) (bs : List ℕ) → eqb b line_feed ≡ true → line_length (b ∷ bs) ≡ 0
 unfolding line_length
-length_feed b bs e = until_here is_feed b bs e
+length_feed b bs e = simp e
 
 length_other : (b : ℕ) (bs : List ℕ) → eqb b line_feed ≡ false → line_length (b ∷ bs) ≡ suc (line_length bs)
 unfolding line_length
-length_other b bs e = until_later is_feed b bs e
+length_other b bs e = simp e (omega arith)
 
 -- it lies within the text
 pub line-short : (t : List ℕ) → line_length t ≤ length t
 unfolding line_length
-line-short t = until_short is_feed t
+line-short t = prefix_len-le-length is_other t
 
 -- where it ends before the text does, a line feed stands
 pub feed_after : (t : List ℕ) → line_length t < length t → get_or t (line_length t) 0 ≡ line_feed
 unfolding line_length
-feed_after t h = eqb-true (get_or t (line_length t) 0) line_feed (until_stop is_feed t h)
+feed_after t h = eqb-true (get_or t (line_length t) 0) line_feed (passes_at_first is_feed t 0 h)
 
 module _ (t : List ℕ) (i : ℕ) where
   -- a line feed at i: the line there is empty
   pub line-ends : i < length t → get_or t i 0 ≡ line_feed → line_length (drop i t) ≡ 0
   unfolding line_length
-  line-ends h e = until_ends is_feed t i h (eq-eqb (get_or t i 0) line_feed e)
+  line-ends h e = prefix_len-drop_no is_other t i 0 h (ap not (eq-eqb (get_or t i 0) line_feed e))
 
   -- another byte at i: the line there is one byte longer than from the next place
   pub line-goes_on :
       i < length t → (get_or t i 0 ≡ line_feed → ⊥) → line_length (drop i t) ≡ suc (line_length (drop (i + 1) t))
   unfolding line_length
-  line-goes_on h f = until_goes_on is_feed t i h (ne_eqb (get_or t i 0) line_feed f)
+  line-goes_on h f = omega (arith, prefix_len-drop_yes is_other t i 0 h (ap not (ne_eqb (get_or t i 0) line_feed f)))
 
   -- no byte at i
   pub line-past : length t ≤ i → line_length (drop i t) ≡ 0
   unfolding line_length
-  line-past h = until_past is_feed t i h
+  line-past h = prefix_len-drop_all is_other t i h
 
   -- the line from a place within the text ends within it
   pub line-inside : i ≤ length t → i + line_length (drop i t) ≤ length t
-  unfolding line_length
-  line-inside h = until_inside is_feed t i h
+  line-inside h = omega (arith, line-short (drop i t), length-drop i t)
 
 -- ---- the lines of a text
 
@@ -173,97 +128,108 @@ module _ (t : List ℕ) (i : ℕ) where
   unfolding lines
   lines-past h = rw (drop_of_length-le t h)
 
-  -- ---- how many lines there are
+-- ---- how many lines there are
 
-  -- the line at i is one of them
-  pub count_at :
-      i < length t → length (lines (drop i t)) ≡ suc (length (lines (drop (i + line_length (drop i t) + 1) t)))
-  count_at h = ap length (lines_at h)
+-- a byte goes into the first line, if there is one
+into_first_same : (b : ℕ) (ls : List (List ℕ)) → 1 ≤ length ls → length (into_first b ls) ≡ length ls
+into_first_same b [] h = absurd (not-suc-le-zero h)
+into_first_same b (l ∷ ls) h = refl
 
-  -- from the end on there is none
-  pub count_past : length t ≤ i → length (lines (drop i t)) ≡ 0
-  count_past h = ap length (lines-past h)
+last_of_more : (b a : ℕ) (bs : List ℕ) → ends_open (b ∷ a ∷ bs) ≡ ends_open (a ∷ bs)
+last_of_more b a bs =
+    let m : suc (suc (length bs)) - 1 ≡ suc (length bs) = omega arith in
+    let n : suc (length bs) - 1 ≡ length bs = omega arith in
+    rw (m, n)
 
-count-into_first : (b : ℕ) (ls : List (List ℕ)) → length (into_first b ls) ≤ suc (length ls)
-count-into_first b [] = omega arith
-count-into_first b (l ∷ ls) = omega arith
-
--- no more lines than bytes
-pub count_small : (t : List ℕ) → length (lines t) ≤ length t
+-- one for each line feed, and one that has none at its end
+pub count_feeds_lines : (t : List ℕ) → length (lines t) ≡ count_by is_feed t + bool_byte (ends_open t)
 unfolding lines
-count_small [] = omega arith
-count_small (b ∷ bs) = go (eqb b line_feed) refl (count_small bs)
+count_feeds_lines [] = refl
+count_feeds_lines (b ∷ []) = go (eqb b line_feed) refl
   where
-    go : (f : Bool) → eqb b line_feed ≡ f → length (lines bs) ≤ length bs → length (lines (b ∷ bs)) ≤ suc (length bs)
-    go true e h = rw (lines_feed b bs e) (omega arith)
-    go false e h = rw (lines_other b bs e) (omega (arith, count-into_first b (lines bs)))
+    go : (f : Bool) → eqb b line_feed ≡ f → length (lines (b ∷ [])) ≡ count_by is_feed (b ∷ []) + bool_byte (ends_open (b ∷ []))
+    go true e = simp (lines_feed b [] e, e) (omega arith)
+    go false e = simp (lines_other b [] e, e) (omega arith)
+count_feeds_lines (b ∷ a ∷ bs) = go (eqb b line_feed) refl (count_feeds_lines (a ∷ bs))
+  where
+    go :
+        (f : Bool) → eqb b line_feed ≡ f → length (lines (a ∷ bs)) ≡ count_by is_feed (a ∷ bs) + bool_byte (ends_open (a ∷ bs))
+        → length (lines (b ∷ a ∷ bs)) ≡ count_by is_feed (b ∷ a ∷ bs) + bool_byte (ends_open (b ∷ a ∷ bs))
+    go true e rest = rw (last_of_more b a bs, sum_by-cons (λ c. cond (is_feed c) 1 0) b (a ∷ bs), lines_feed b (a ∷ bs) e, e) (omega arith)
+    go false e rest =
+        let some : 1 ≤ length (lines (a ∷ bs)) = omega (arith, ap length (lines_cons a bs)) in
+        let n = into_first_same b (lines (a ∷ bs)) some in
+        rw (last_of_more b a bs, sum_by-cons (λ c. cond (is_feed c) 1 0) b (a ∷ bs), lines_other b (a ∷ bs) e, e) (omega arith)
 
 -- ---- empty lines at the front
 
 blanks_feed : (b : ℕ) (bs : List ℕ) → eqb b line_feed ≡ true → blanks (b ∷ bs) ≡ suc (blanks bs)
 unfolding blanks
-blanks_feed b bs e = until_later is_other b bs (ap not e)
+blanks_feed b bs e = simp e (omega arith)
 
 blanks_other : (b : ℕ) (bs : List ℕ) → eqb b line_feed ≡ false → blanks (b ∷ bs) ≡ 0
 unfolding blanks
-blanks_other b bs e = until_here is_other b bs (ap not e)
+blanks_other b bs e = simp e
+
+-- they lie within the text
+pub blanks-short : (t : List ℕ) → blanks t ≤ length t
+unfolding blanks
+blanks-short t = prefix_len-le-length (λ b. not (is_other b)) t
 
 module _ (t : List ℕ) (i : ℕ) where
   -- a line feed at i: one empty line more
   pub blanks_go_on : i < length t → get_or t i 0 ≡ line_feed → blanks (drop i t) ≡ suc (blanks (drop (i + 1) t))
   unfolding blanks
-  blanks_go_on h e = until_goes_on is_other t i h (ap not (eq-eqb (get_or t i 0) line_feed e))
-
-  -- another byte at i, or none: no empty line there
-  pub blanks_end : i < length t → (get_or t i 0 ≡ line_feed → ⊥) → blanks (drop i t) ≡ 0
-  unfolding blanks
-  blanks_end h f = until_ends is_other t i h (ap not (ne_eqb (get_or t i 0) line_feed f))
-
-  pub blanks-past : length t ≤ i → blanks (drop i t) ≡ 0
-  unfolding blanks
-  blanks-past h = until_past is_other t i h
+  blanks_go_on h e = omega (arith, prefix_len-drop_yes (λ b. not (is_other b)) t i 0 h (ap (λ (b : Bool). not (not b)) (eq-eqb (get_or t i 0) line_feed e)))
 
   -- those from a place within the text end within it
   pub blanks-inside : i ≤ length t → i + blanks (drop i t) ≤ length t
-  unfolding blanks
-  blanks-inside h = until_inside is_other t i h
+  blanks-inside h = omega (arith, blanks-short (drop i t), length-drop i t)
 
--- they lie within the text
-pub blanks-short : (t : List ℕ) → blanks t ≤ length t
+-- Eight bytes are line feeds: there are so many more at the front, and else the text stays. So it is for as many chunks as are
+-- passed.
+abbrev pub is_passed : List ℕ → Bool
+is_passed eight = pointwise nat_eq eight (replicate 8 line_feed)
+
+eight_blanks : (t : List ℕ) → is_passed (take 8 t) ≡ true → blanks t ≡ 8 + blanks (drop 8 t)
 unfolding blanks
-blanks-short t = until_short is_other t
+eight_blanks t e =
+    let feeds : take 8 t ≡ replicate 8 line_feed = (bytes_eq-Decides (take 8 t) (replicate 8 line_feed)).0 e in
+    ap blanks (sym (take-append-drop 8 t) ∙ ap (λ (eight : List ℕ). eight ++ drop 8 t) feeds) ∙ omega arith
 
--- past n of those at i there are so many fewer
-pub blanks-drop : (t : List ℕ) (i n : ℕ) → n ≤ blanks (drop i t) → blanks (drop i t) ≡ n + blanks (drop (i + n) t)
-unfolding blanks
-blanks-drop t i n h = until_drop is_other (drop i t) n h ∙ ap (λ (d : List ℕ). n + blanks d) (drop-drop n i t)
+pub blanks-chunks :
+    (k : ℕ) (t : List ℕ)
+    → blanks t ≡ 8 * prefix_len is_passed (first_chunks 8 k t) + blanks (drop (8 * prefix_len is_passed (first_chunks 8 k t)) t)
+blanks-chunks zero t = omega arith
+blanks-chunks (suc k) t = go (is_passed (take 8 t)) refl (blanks-chunks k (drop 8 t))
+  where
+    passed : ℕ
+    passed = prefix_len is_passed (first_chunks 8 k (drop 8 t))
 
--- the byte behind n of them is a line feed where there are more
-blanks_more : (t : List ℕ) (n : ℕ) → n < length t → leb n (blanks t) && is_feed (get_or t n 0) ≡ leb (suc n) (blanks t)
-blanks_more [] n h = absurd (not-suc-le-zero h)
-blanks_more (b ∷ bs) n h = go (eqb b line_feed) refl n h (blanks_more bs)
+    go :
+        (p : Bool) → is_passed (take 8 t) ≡ p → blanks (drop 8 t) ≡ 8 * passed + blanks (drop (8 * passed) (drop 8 t))
+        → blanks t ≡ 8 * cond p (1 + passed) 0 + blanks (drop (8 * cond p (1 + passed) 0) t)
+    go true e rest =
+        let n : 8 + 8 * passed ≡ 8 * (1 + passed) = omega arith in
+        let d : drop (8 * passed) (drop 8 t) ≡ drop (8 * (1 + passed)) t = drop-drop (8 * passed) 8 t ∙ ap (λ (k : ℕ). drop k t) n in
+        omega (arith, eight_blanks t e, rest, ap blanks d)
+    go false e rest = omega arith
+
+passed_not : (eights : List (List ℕ)) → prefix_len (λ eight. not (not (is_passed eight))) eights ≡ prefix_len is_passed eights
+passed_not [] = refl
+passed_not (e ∷ es) = go (is_passed e) (passed_not es)
   where
     go :
-        (p : Bool) → eqb b line_feed ≡ p → (n : ℕ) → n < suc (length bs)
-        → ((m : ℕ) → m < length bs → leb m (blanks bs) && is_feed (get_or bs m 0) ≡ leb (suc m) (blanks bs))
-        → leb n (blanks (b ∷ bs)) && is_feed (get_or (b ∷ bs) n 0) ≡ leb (suc n) (blanks (b ∷ bs))
-    go true e zero h rest = simp (blanks_feed b bs e, e, leb-zero) (sym (le-leb 1 (suc (blanks bs)) (omega arith)))
-    go true e (suc n) h rest = simp (blanks_feed b bs e, leb-suc-suc) (rest n (omega arith))
-    go false e zero h rest = simp (blanks_other b bs e, e)
-    go false e (suc n) h rest = simp (blanks_other b bs e, leb-suc-zero)
+        (p : Bool) → prefix_len (λ eight. not (not (is_passed eight))) es ≡ prefix_len is_passed es
+        → cond (not (not p)) (1 + prefix_len (λ eight. not (not (is_passed eight))) es) 0 ≡ cond p (1 + prefix_len is_passed es) 0
+    go true rest = ap (λ (n : ℕ). 1 + n) rest
+    go false rest = refl
 
--- a line feed at i, and at each of the n places after it
-abbrev pub feeds_at : List ℕ → ℕ → ℕ → Bool
-feeds_at t i zero = is_feed (get_or t i 0)
-feeds_at t i (suc n) = feeds_at t i n && is_feed (get_or t (i + suc n) 0)
-
--- they are where there are more than n empty lines
-pub feeds_blanks : (t : List ℕ) (i n : ℕ) → i + n < length t → feeds_at t i n ≡ leb (suc n) (blanks (drop i t))
-feeds_blanks t i zero h =
-    simp (leb-zero, get_or-drop, add-zero) at (blanks_more (drop i t) 0 (simp length-drop (omega arith)))
-feeds_blanks t i (suc n) h =
-    ap (λ (p : Bool). p && is_feed (get_or t (i + suc n) 0)) (feeds_blanks t i n (omega arith))
-    ∙ simp get_or-drop at (blanks_more (drop i t) (suc n) (simp length-drop (omega arith)))
+-- where n is the first place of a chunk with another byte
+pub blanks_passed : (k n : ℕ) (t : List ℕ) → n ≡ position_or_len (λ eight. not (is_passed eight)) (first_chunks 8 k t) → blanks t ≡ 8 * n + blanks (drop (8 * n) t)
+blanks_passed k n t e =
+    let same : n ≡ prefix_len is_passed (first_chunks 8 k t) = e ∙ passed_not (first_chunks 8 k t) in
+    rw same (blanks-chunks k t)
 
 -- the lines of a body: so many empty ones, and those from its first block on
 pub lines-blanks : (t : List ℕ) → lines t ≡ replicate (blanks t) [] ++ lines (drop (blanks t) t)
@@ -284,7 +250,7 @@ unfolding blanks
 next-stop t from next e h f =
     let d : List ℕ = drop from t in
     let k : blanks d < length d = simp length-drop (omega arith) in
-    eqb-false (get_or d (blanks d) 0) line_feed (not-true (is_feed (get_or d (blanks d) 0)) (until_stop is_other d k))
+    eqb-false (get_or d (blanks d) 0) line_feed (not-true (is_feed (get_or d (blanks d) 0)) (passes_at_first is_other d 0 k))
     (get_or-drop from t (blanks d) 0 ∙ ap (λ (n : ℕ). get_or t n 0) (sym e) ∙ f)
 
 -- ---- The first byte of a line

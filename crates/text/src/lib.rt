@@ -1,59 +1,63 @@
 // The bytes of a program text: which are allowed, the text without its spaces, and where its lines end.
 #![tactic(auto)]
 
-ghost use Rattle.std.specs.Prelude.{◌≡◌, ◌+◌, ◌≤◌, leb, length, drop};
+ghost use Rattle.std.specs.Prelude.{◌≡◌, ◌+◌, ◌*◌, ◌≤◌, not, length, drop, count_by, position};
 ghost use Rattle.aries.specs.Test.{every};
 ghost use Rattle.aries.specs.Text.{is_allowed, stray_line, lines};
-ghost use Rattle.text.specs.Cleaning.{Clean, Copied, or_zero};
-ghost use Rattle.text.specs.Lines.{line_length, blanks};
+ghost use Rattle.text.specs.Cleaning.{Clean, Copied};
+ghost use Rattle.text.specs.Lines.{is_feed, line_length, blanks, ends_open};
 
-const LINE_FEED: u8 = 10;
+use aries::refusal::{Refusal, Refused};
 
-const SPACE: u8 = 32;
+pub const LINE_FEED: u8 = b'\n';
 
-// What the bytes of a text come to: the line of the first that is not allowed, or how many there are besides spaces.
-#[derive(Clone, Copy)]
-pub enum Cleaned {
-    Stray(u64),
-    Dense(usize),
-}
+pub const SPACE: u8 = b' ';
 
-// Copies the bytes other than spaces to the front of the buffer, unless a byte is not allowed.
-pub fn clean(text: &[u8], buffer: &mut [u8]) -> Cleaned
+// Copies the bytes other than spaces to the front of the buffer and answers how many they are; or refuses the line of the first
+// byte that is not allowed (2).
+pub fn clean(text: &[u8], buffer: &mut [u8]) -> Result<usize, Refused>
     requires { length text.now ≤ length buffer.old }
     ensures { Clean text.now result buffer.new }
 {
-    if all_allowed(text) {
-        Cleaned::Dense(copy_without_spaces(text, buffer))
-    } else {
-        Cleaned::Stray(stray_line(text))
+    match stray_line(text) {
+        Some(line) => Err(Refusal::StrayByte.at(line)),
+        None => Ok(copy_without_spaces(text, buffer)),
     }
 }
 
-// Whether all bytes are allowed. No byte ends the loop, so that it is compiled for many bytes at a time.
+// The line of the first byte that is not allowed, if there is one.
+fn stray_line(text: &[u8]) -> Option<u64>
+    ensures { result ≡ stray_line 1 text.now }
+{
+    if all_allowed(text) {
+        return None;
+    }
+    let place = stray_place(text)?;
+    Some(1 + count_feeds(&text[..place]))
+}
+
+// Where the first byte stands that is not allowed, if there is one.
+fn stray_place(text: &[u8]) -> Option<usize>
+    ensures { result ≡ position (λ b. not (is_allowed b)) text.now }
+{
+    text.iter().position(|b| !is_allowed(*b))
+}
+
+// Whether all bytes are allowed. No byte ends the test, so that it is compiled for many bytes at a time.
 fn all_allowed(text: &[u8]) -> bool
     ensures { result ≡ every is_allowed text.now }
 {
-    let mut all = true;
-    let mut i = 0;
-    while i < text.len() {
-        all = all & is_allowed(text[i]);
-        i += 1;
-    }
-    all
+    text.iter().fold(true, |all, b| all & is_allowed(*b))
 }
 
-// Whether a text may hold a byte: a capital, a digit, a space, a line feed, plus, minus or point.
+// Whether a text may hold a byte: a capital, a digit, a space, a line feed, plus, minus or point. One `matches!` for all of
+// them is compiled to a tenth more instructions.
 fn is_allowed(b: u8) -> bool
     ensures { result ≡ is_allowed b }
 {
-    ((b'A' <= b) & (b <= b'Z'))
-        | ((b'0' <= b) & (b <= b'9'))
-        | (b == SPACE)
-        | (b == LINE_FEED)
-        | (b == b'+')
-        | (b == b'-')
-        | (b == b'.')
+    b.is_ascii_uppercase()
+        | b.is_ascii_digit()
+        | matches!(b, SPACE | LINE_FEED | b'+' | b'-' | b'.')
 }
 
 // Copies the bytes other than spaces to the front of the buffer, and answers how many they are.
@@ -62,50 +66,21 @@ fn copy_without_spaces(text: &[u8], buffer: &mut [u8]) -> usize
     ensures { Copied text.now result buffer.new }
 {
     let mut n = 0;
-    let mut i = 0;
-    while i < text.len() {
-        let b = text[i];
+    for &b in text {
         // the place past what was copied may be written in vain
         buffer[n] = b;
         if b != SPACE {
             n += 1;
         }
-        i += 1;
     }
     n
-}
-
-// The line of the first byte that is not allowed, or 0 where there is none.
-fn stray_line(text: &[u8]) -> u64
-    ensures { result ≡ or_zero (stray_line 1 text.now) }
-{
-    let mut line: u64 = 1;
-    let mut i = 0;
-    while i < text.len() {
-        let b = text[i];
-        if !is_allowed(b) {
-            return line;
-        }
-        if b == LINE_FEED {
-            line += 1;
-        }
-        i += 1;
-    }
-    0
 }
 
 // Where the line ends that starts at a place: at its line feed, or at the end of the text. A place past the end stays.
 pub fn line_end(text: &[u8], from: usize) -> usize
     ensures { result ≡ from + line_length (drop from text.now) }
 {
-    let mut i = from;
-    while i < text.len() {
-        if text[i] == LINE_FEED {
-            return i;
-        }
-        i += 1;
-    }
-    i
+    from + line_length(rest_of(text, from))
 }
 
 // Where the next block starts, from a place between two lines on: past the line feeds that stand there. A place past the
@@ -113,56 +88,64 @@ pub fn line_end(text: &[u8], from: usize) -> usize
 pub fn next_block(text: &[u8], from: usize) -> usize
     ensures { result ≡ from + blanks (drop from text.now) }
 {
-    let mut i = skip_eights(text, from);
-    while i < text.len() {
-        if text[i] != LINE_FEED {
-            return i;
-        }
-        i += 1;
-    }
-    i
+    from + count_blanks(rest_of(text, from))
 }
 
-// Passes over line feeds, eight at a time: the next block lies where it lay. Free is how many are left before it.
-fn skip_eights(text: &[u8], from: usize) -> usize
-    ensures { result + blanks (drop result text.now) ≡ from + blanks (drop from text.now) }
+// The text from a place on; there is none past its end.
+fn rest_of(text: &[u8], from: usize) -> &[u8]
+    ensures { result.now ≡ drop from text.now }
 {
-    let mut i = from;
-    while are_eight_feeds(text, i) {
-        i += 8;
-    }
-    i
+    text.get(from..).unwrap_or(&[])
 }
 
-// Whether at least eight line feeds stand at a place: no byte ends the test, so that it is compiled to one comparison.
-fn are_eight_feeds(text: &[u8], at: usize) -> bool
-    ensures { result ≡ leb 8 (blanks (drop at text.now)) }
+// How many bytes stand before the first line feed.
+fn line_length(text: &[u8]) -> usize
+    ensures { result ≡ line_length text.now }
 {
-    if text.len() < 8 {
-        return false;
-    }
-    if text.len() - 8 < at {
-        return false;
-    }
-    (text[at] == LINE_FEED)
-        & (text[at + 1] == LINE_FEED)
-        & (text[at + 2] == LINE_FEED)
-        & (text[at + 3] == LINE_FEED)
-        & (text[at + 4] == LINE_FEED)
-        & (text[at + 5] == LINE_FEED)
-        & (text[at + 6] == LINE_FEED)
-        & (text[at + 7] == LINE_FEED)
+    text.iter()
+        .position(|b| *b == LINE_FEED)
+        .unwrap_or(text.len())
 }
 
-// How many lines a text has.
+// How many line feeds stand at the front. They are passed over eight at a time.
+fn count_blanks(text: &[u8]) -> usize
+    ensures { result ≡ blanks text.now }
+{
+    let passed = 8 * count_blank_eights(text);
+    let rest = &text[passed..];
+    let past = rest.iter().position(|b| *b != LINE_FEED);
+    passed + past.unwrap_or(rest.len())
+}
+
+// How many times eight line feeds stand at the front: past them are so many fewer.
+fn count_blank_eights(text: &[u8]) -> usize
+    ensures within { 8 * result ≤ length text.now }
+    ensures fewer { blanks text.now ≡ 8 * result + blanks (drop (8 * result) text.now) }
+{
+    let (eights, _) = text.as_chunks::<8>();
+    eights
+        .iter()
+        .position(|eight| *eight != [LINE_FEED; 8])
+        .unwrap_or(eights.len())
+}
+
+// How many line feeds a text has.
+fn count_feeds(text: &[u8]) -> u64
+    ensures { result ≡ count_by is_feed text.now }
+{
+    text.iter().filter(|b| **b == LINE_FEED).count() as u64
+}
+
+// How many lines a text has: one for each line feed, and one that has none at its end.
 pub fn count_lines(text: &[u8]) -> u64
     ensures { result ≡ length (lines text.now) }
 {
-    let mut count: u64 = 0;
-    let mut at = 0;
-    while at < text.len() {
-        at = line_end(text, at) + 1;
-        count += 1;
-    }
-    count
+    count_feeds(text) + u64::from(ends_open(text))
+}
+
+// Whether another byte than a line feed is the last.
+fn ends_open(text: &[u8]) -> bool
+    ensures { result ≡ ends_open text.now }
+{
+    text.last().is_some_and(|b| *b != LINE_FEED)
 }

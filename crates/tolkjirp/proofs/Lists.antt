@@ -3,10 +3,9 @@ use mathlib.Core.Path.{◌≡◌, refl, sym, ap, ◌∙◌}
 use mathlib.Core.List.{List, [], ◌∷◌, ◌++◌, append-nil}
 use Prim.Native.Nat.{ℕ, suc, ◌+◌, ◌-◌, ◌*◌, ◌/◌, ◌<◌, ◌≤◌}
 use native.Mathlib.Omega.{arith}
-use native.Mathlib.Numerals.{add-one}
 use lib.IntN.{ℤ, pos}
-use lib.ListN.{length, take, drop, set, replicate, length-set}
-use lib.Seq.{sets, sets-eq, append_snoc, take_at, take_all, take-suc-set}
+use lib.ListN.{length, take, drop, replicate}
+use lib.Seq.{sets, sets-eq, take_at, take_all}
 use Rattle.aries.specs.declared.entry.Entry.{Entry}
 use Rattle.aries.specs.Entries.{cells}
 use Rattle.aries.specs.Runs.{Lent, put, over}
@@ -53,25 +52,15 @@ cleared_past l es fit =
     ∙ ap (λ (r : List ℤ). r ++ replicate (length l.list - length es * 4) (pos 0)) (take_at (cells es) (drop (4 * length es) l.list) (length es * 4) e)
     ∙ ap (λ (k : ℕ). cells es ++ replicate (length l.list - k) (pos 0)) (sym e)
 
--- ---- Clearing, one number after the other
+-- ---- Clearing
 
 -- a list, cleared from a place on
 abbrev pub cleared : List ℤ → ℕ → List ℤ
 cleared l from = take from l ++ replicate (length l - from) (pos 0)
 
--- with one number cleared the same is left to clear
-pub clear_one : (l : List ℤ) (i : ℕ) → i < length l → cleared (set l i (pos 0)) (i + 1) ≡ cleared l i
-clear_one l i h =
-    let b : length l - i ≡ suc (length l - suc i) = omega arith in
-    rw (add-one i, take-suc-set l i (pos 0) h, length-set, append_snoc, b)
-
--- at the end nothing is
+-- at the end nothing is left to clear
 pub clear_end : (l : List ℤ) (i : ℕ) → i ≡ length l → cleared l i ≡ l
 clear_end l i e =
     let z : length l - i ≡ 0 = omega arith in
     let n : length l ≤ i = omega arith in
     rw z (append-nil (take i l) ∙ take_all i l n)
-
--- from the start on, nothing is kept
-pub clear_whole : (l : List ℤ) → cleared l 0 ≡ replicate (length l) (pos 0)
-clear_whole l = let e : length l - 0 ≡ length l = omega arith in ap (λ (k : ℕ). replicate k (pos 0)) e

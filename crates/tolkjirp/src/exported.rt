@@ -3,16 +3,16 @@ ghost use Rattle.std.specs.Prelude.{◌≡◌, length};
 ghost use Rattle.aries.specs.Program.{expand};
 ghost use Rattle.tolkjirp.specs.Exported.{three_numbers, Exported};
 
-use aries::answer::Answer;
+use aries::refusal::Refused;
 use tallies::FIGURES;
 
 // An answer as three numbers: the refusal's number or 0, the count of entries, the refusal's line.
-fn three_numbers(answer: Answer) -> [u64; 3]
+fn three_numbers(answer: Result<usize, Refused>) -> [u64; 3]
     ensures { result ≡ three_numbers answer }
 {
     match answer {
-        Answer::Entries(count) => [0, count as u64, 0],
-        Answer::Refused(number, line) => [number as u64, 0, line],
+        Ok(count) => [0, count as u64, 0],
+        Err(refused) => [u64::from(refused.refusal.number()), 0, refused.line],
     }
 }
 
@@ -29,6 +29,5 @@ pub fn tolkjirp_expand(
 )
     ensures { Exported answer.new list.new tally.new (length list.old) (expand setting text.now (length list.old)) }
 {
-    let numbers = three_numbers(crate::expand(setting, text, list, tally));
-    *answer = numbers;
+    *answer = three_numbers(crate::expand(setting, text, list, tally));
 }

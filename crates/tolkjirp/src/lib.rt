@@ -3,23 +3,19 @@
 
 pub mod exported; // the function that tolkjirp_c exports
 
-ghost use Rattle.std.specs.Prelude.{◌≡◌, ◌++◌, ◌+◌, ◌-◌, ◌*◌, ◌≤◌, pos, length, take, replicate};
+ghost use Rattle.std.specs.Prelude.{◌≡◌, ◌++◌, ◌-◌, ◌≤◌, pos, length, take, replicate};
 ghost use Rattle.aries.specs.Text.{lines, longest};
 ghost use Rattle.aries.specs.Judging.{lending};
-ghost use Rattle.aries.specs.Outcome.{refused};
 ghost use Rattle.aries.specs.Program.{is_ended, perform, expand};
-ghost use Rattle.tolkjirp.specs.Answers.{Answers};
+ghost use Rattle.tolkjirp.specs.Answers.{Accepts, Answers};
 ghost use Rattle.tolkjirp.specs.Cleaned.{after_cleaning};
 
-use aries::answer::Answer;
 use aries::job::{Job, NUMBERS};
 use aries::reader::Setting;
-use aries::refusal;
+use aries::refusal::{Refusal, Refused};
 use aries::setup::Stage;
-use aries::state::Status;
 use program::lines::run_text;
 use tallies::FIGURES;
-use text::Cleaned;
 
 // The most bytes a text may have.
 pub const LONGEST: usize = 60_000;
@@ -29,146 +25,97 @@ const SHORT: usize = 4_096;
 
 const TINY: usize = 256;
 
+// List and tally are lent as two: of a struct of two `&mut` each function would also have to say that the references stay.
+
 // Clears a list from a place on.
 fn clear_from(list: &mut [i32], from: usize)
     requires { from ≤ length list.old }
     ensures { list.new ≡ take from list.old ++ replicate (length list.old - from) (pos 0) }
 {
-    let mut i = from;
-    while i < list.len() {
-        list[i] = 0;
-        i += 1;
-    }
-}
-
-// A refusal: list and tally are cleared.
-fn refuse(list: &mut [i32], tally: &mut [u64; FIGURES], number: u8, line: u64) -> Answer
-    ensures { Answers result list.new tally.new (length list.old) (refused number line) }
-{
-    clear_from(list, 0);
-    tallies::clear(tally);
-    Answer::Refused(number, line)
+    list[from..].fill(0);
 }
 
 // Whether G50 has come.
 fn is_ended(stage: Stage) -> bool
     ensures { result ≡ is_ended stage }
 {
-    match stage {
-        Stage::Fresh => false,
-        Stage::Running => false,
-        Stage::Storing => false,
-        Stage::Ended => true,
-    }
+    matches!(stage, Stage::Ended)
 }
 
 // The blocks of a text without its spaces; whole is the text with them, whose last line a missing G50 is refused in.
+#[tactic(auto, unfolding(aries::specs::Program::perform))]
 fn perform(
     setting: Setting,
     list: &mut [i32],
     tally: &mut [u64; FIGURES],
     text: &[u8],
     whole: &[u8],
-) -> Answer
+) -> Result<usize, Refused>
     requires { length text.now ≤ longest }
-    ensures { Answers result list.new tally.new (length list.old) (perform (lending setting (length list.old)) text.now (length (lines whole.now))) }
+    ensures { Accepts result list.new tally.new (length list.old) (perform (lending setting (length list.old)) text.now (length (lines whole.now))) }
 {
     let job = Job::lending(setting, list.len());
     tallies::clear(tally);
-    let run = run_text(job, list, tally, text);
-    let status = run.status;
-    if let Status::Refused(number, line) = status {
-        return refuse(list, tally, number, line);
-    }
-    let left = run.program;
-    let stage = left.stage;
-    if !is_ended(stage) {
-        return refuse(list, tally, refusal::OUT_OF_PLACE, text::count_lines(whole));
+    let left = run_text(job, list, tally, text)?;
+    if !is_ended(left.stage) {
+        return Err(Refusal::OutOfPlace.at(text::count_lines(whole)));
     }
     let entries = left.progress.entries;
     clear_from(list, entries * NUMBERS);
-    Answer::Entries(entries)
+    Ok(entries)
 }
 
-// A text of a length that is allowed, by way of a buffer for its bytes other than spaces.
-fn expand_through(
+// A text of a length that is allowed, by way of a buffer of N bytes for those other than spaces.
+fn expand_within<const N: usize>(
     setting: Setting,
     text: &[u8],
-    buffer: &mut [u8],
     list: &mut [i32],
     tally: &mut [u64; FIGURES],
-) -> Answer
-    requires { (length text.now ≤ longest) × (length text.now ≤ length buffer.old) }
-    ensures { Answers result list.new tally.new (length list.old) (after_cleaning setting text.now (length list.old)) }
+) -> Result<usize, Refused>
+    requires fits { length text.now ≤ N }
+    requires allowed { N ≤ longest }
+    ensures { Accepts result list.new tally.new (length list.old) (after_cleaning setting text.now (length list.old)) }
 {
-    let cleaned = text::clean(text, buffer);
-    match cleaned {
-        Cleaned::Stray(line) => refuse(list, tally, refusal::STRAY_BYTE, line),
-        Cleaned::Dense(n) => perform(setting, list, tally, &buffer[..n], text),
+    let mut buffer = [0u8; N];
+    let n = text::clean(text, &mut buffer)?;
+    perform(setting, list, tally, &buffer[..n], text)
+}
+
+// A text, of whatever length.
+#[tactic(auto, unfolding(aries::specs::Program::expand))]
+fn expand_text(
+    setting: i32,
+    text: &[u8],
+    list: &mut [i32],
+    tally: &mut [u64; FIGURES],
+) -> Result<usize, Refused>
+    ensures { Accepts result list.new tally.new (length list.old) (expand setting text.now (length list.old)) }
+{
+    let stated = Setting::of(setting);
+    match text.len() {
+        1..=TINY => expand_within::<TINY>(stated, text, list, tally),
+        1..=SHORT => expand_within::<SHORT>(stated, text, list, tally),
+        1..=LONGEST => expand_within::<LONGEST>(stated, text, list, tally),
+        _ => Err(Refusal::TextLength.at(0)),
     }
-}
-
-// A tiny text, in a tiny buffer.
-fn expand_tiny(
-    setting: Setting,
-    text: &[u8],
-    list: &mut [i32],
-    tally: &mut [u64; FIGURES],
-) -> Answer
-    requires { length text.now ≤ 256 }
-    ensures { Answers result list.new tally.new (length list.old) (after_cleaning setting text.now (length list.old)) }
-{
-    let mut buffer = [0u8; TINY];
-    expand_through(setting, text, &mut buffer, list, tally)
-}
-
-// A short text, in a small buffer.
-fn expand_short(
-    setting: Setting,
-    text: &[u8],
-    list: &mut [i32],
-    tally: &mut [u64; FIGURES],
-) -> Answer
-    requires { length text.now ≤ 4096 }
-    ensures { Answers result list.new tally.new (length list.old) (after_cleaning setting text.now (length list.old)) }
-{
-    let mut buffer = [0u8; SHORT];
-    expand_through(setting, text, &mut buffer, list, tally)
-}
-
-// Any other text that is not too long.
-fn expand_long(
-    setting: Setting,
-    text: &[u8],
-    list: &mut [i32],
-    tally: &mut [u64; FIGURES],
-) -> Answer
-    requires { length text.now ≤ longest }
-    ensures { Answers result list.new tally.new (length list.old) (after_cleaning setting text.now (length list.old)) }
-{
-    let mut buffer = [0u8; LONGEST];
-    expand_through(setting, text, &mut buffer, list, tally)
 }
 
 // Expands a program text, at the decimal point setting that a number states, 0 or any other for 1, into a lent list, four
 // numbers an entry: X, Y, tool and mode, and a lent tally, three numbers a tool: its hits, and the first and the last index
 // where it stands. What the entries leave of the list is zero, and after a refusal all of list and tally.
-#[tactic(auto, using(crate::proofs::Endings::expand_empty, crate::proofs::Endings::expand_long, crate::proofs::Endings::expand_through))]
-pub fn expand(setting: i32, text: &[u8], list: &mut [i32], tally: &mut [u64; FIGURES]) -> Answer
+#[tactic(auto, unfolding(aries::specs::Program::list_of, aries::specs::Program::tally_for))]
+pub fn expand(
+    setting: i32,
+    text: &[u8],
+    list: &mut [i32],
+    tally: &mut [u64; FIGURES],
+) -> Result<usize, Refused>
     ensures { Answers result list.new tally.new (length list.old) (expand setting text.now (length list.old)) }
 {
-    if text.len() == 0 {
-        return refuse(list, tally, refusal::TEXT_LENGTH, 0);
+    let answer = expand_text(setting, text, list, tally);
+    if answer.is_err() {
+        list.fill(0);
+        tallies::clear(tally);
     }
-    if LONGEST < text.len() {
-        return refuse(list, tally, refusal::TEXT_LENGTH, 0);
-    }
-    let stated = Setting::of(setting);
-    if text.len() <= TINY {
-        return expand_tiny(stated, text, list, tally);
-    }
-    if text.len() <= SHORT {
-        return expand_short(stated, text, list, tally);
-    }
-    expand_long(stated, text, list, tally)
+    answer
 }

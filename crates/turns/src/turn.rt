@@ -2,6 +2,7 @@ ghost use Rattle.std.specs.Prelude.{◌≡◌};
 ghost use Rattle.aries.specs.declared.setup.Stage.TheVariants.{Running};
 
 use aries::block::{Call, Copies};
+use aries::location::Location;
 use aries::setup::{Setup, Stage};
 use aries::state::Progress;
 
@@ -15,18 +16,15 @@ pub enum Called {
 // What comes next in a text.
 #[derive(Clone, Copy)]
 pub enum Next {
-    // the lines from a place on, the first with a number
-    Line(usize, u64),
-    // a block that runs stored bodies, the place where its line ends, and its line
-    Run(Called, usize, u64),
+    // the lines from a place on
+    Line(Location),
+    // a block that runs stored bodies, and where its line ends
+    Run(Called, Location),
     // the U line of a macro, likewise
-    Open(u8, usize, u64),
-    // a refusal, with its line
-    Refused(u8, u64),
+    Open(u8, Location),
 }
 
-// The program between two blocks, but for the stored bodies, and what comes next. After a refusal all else is of no
-// account.
+// The program between two blocks, but for the stored bodies, and what comes next.
 #[derive(Clone, Copy)]
 pub struct Turn {
     pub stage: Stage,
@@ -36,7 +34,7 @@ pub struct Turn {
 }
 
 impl Turn {
-    // A turn of a program that runs, or one that ends in a refusal.
+    // A turn of a program that runs.
     pub fn running(setup: Setup, progress: Progress, next: Next) -> Turn
         ensures { result ≡ record { stage = Running; setup = setup; progress = progress; next = next } }
     {

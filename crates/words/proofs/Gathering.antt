@@ -1,26 +1,22 @@
 -- Laws of `words` and `formed_words`: the words of a line one by one, and what the code answers of them.
 -- Assumes nothing.
+use Rattle.std.specs.Prelude.{None, Some, Option, Ok, Err, is_some}
 use mathlib.Core.Path.{◌≡◌, refl, sym, ap, ◌∙◌}
 use mathlib.Core.Bool.{Bool, true, false, cond}
 use mathlib.Core.List.{List, [], ◌∷◌, ◌++◌, append-nil}
-use mathlib.Core.Option.{none, some}
 use Prim.Native.Nat.{ℕ, suc, ◌+◌, ◌-◌, ◌≤◌}
 use native.Mathlib.Omega.{arith}
 use lib.Dec.{eqb}
-use lib.IntN.{ℤ}
 use lib.ListN.{length, drop, length-drop}
 use lib.Seq.{drop-drop, append_snoc}
 use borrow.Author.Tests.{eqb-true, eqb-false, eq-eqb, ne_eqb}
-use Rattle.aries.specs.Test.{is_some}
 use Rattle.aries.specs.Words.{LetterWord, word, front_words, formed_words, size_of, words}
-use Rattle.aries.specs.ByLetter.{by_letter}
 use Rattle.aries.proofs.Words.{front_none, front_some, AllWords, front_all}
 use Rattle.text.specs.Lines.{line_length}
-use Rattle.words.specs.declared.Summary.{Summary}
-use Rattle.words.specs.Gathering.{first_line, Gathers}
-use Rattle.words.specs.Keeping.{letters_of, summary_of}
+use Rattle.words.specs.declared.Malformed.{Malformed}
+use Rattle.words.specs.Line.{first_line, ended}
 use Rattle.words.proofs.Word.{Formed, formed, WellFormed, well_formed}
-use Rattle.words.proofs.Line.{line-length, line-drop, line_word}
+use Rattle.words.proofs.FirstLine.{line-length, line-drop, line_word}
 
 sizes_more : (ws : List LetterWord) (r : LetterWord) → size_of (ws ++ r ∷ []) ≡ size_of ws + r.size
 sizes_more [] r = omega arith
@@ -36,7 +32,7 @@ same_test a b c d f g = go (eqb c d) refl
     go true e = eq-eqb a b (g (eqb-true c d e))
     go false e = ne_eqb a b (λ h. eqb-false c d e (f h))
 
-some-if : {A : Type 0} (t : Bool) (a : A) → is_some (cond t (some a) none) ≡ t
+some-if : {A : Type 0} (t : Bool) (a : A) → is_some (cond t (Some a) None) ≡ t
 some-if true a = refl
 some-if false a = refl
 
@@ -74,10 +70,10 @@ goes-start t from =
 
 module _ (t : List ℕ) (from at : ℕ) (before : List LetterWord) (g : Goes t from at before) where
   -- a word follows
-  pub goes_some : (r : LetterWord) → word (drop at t) ≡ some r → Goes t from (at + r.size) (before ++ r ∷ [])
+  pub goes_some : (r : LetterWord) → word (drop at t) ≡ Some r → Goes t from (at + r.size) (before ++ r ∷ [])
   goes_some r e =
       let line : List ℕ = first_line (drop at t) in
-      let found : word line ≡ some r = line_word (drop at t) ∙ e in
+      let found : word line ≡ Some r = line_word (drop at t) ∙ e in
       let f : Formed line r = formed line r found in
       let size : length line ≡ line_length (drop at t) = line-length (drop at t) in
       let rest : drop r.size line ≡ first_line (drop (at + r.size) t) =
@@ -97,45 +93,55 @@ module _ (t : List ℕ) (from at : ℕ) (before : List LetterWord) (g : Goes t f
         left = omega (arith, g.left, sizes_more before r);
       }
 
-  -- no word follows: the code's answer
-  module _ (e : word (drop at t) ≡ none) where
+  -- no word follows: these are all, and the line ends here or not
+  module _ (e : word (drop at t) ≡ None) where
     abbrev line : List ℕ
     line = first_line (drop from t)
 
-    ended : formed_words line ≡ before
-    ended =
+    pub goes_all : formed_words line ≡ before
+    goes_all =
         g.same
         ∙ ap (◌++◌ before) (front_none g.most (first_line (drop at t)) (line_word (drop at t) ∙ e))
         ∙ append-nil before
 
-    pub gathers :
-        (r : Summary) (forms : List ℕ) (numbers : List ℤ) → r ≡ summary_of (eqb (line_length (drop at t)) 0) at before
-        → letters_of forms numbers ≡ (by_letter before).letters → length numbers ≡ 26
-        → Gathers line from r forms numbers
-    gathers r forms numbers s l n =
+    pub goes_end : ended from line ≡ cond (eqb (line_length (drop at t)) 0) (Ok at) (Err (record { at = at }))
+    goes_end =
         let whole : is_some (words line) ≡ eqb (line_length (drop at t)) 0 =
         all_formed line
-        ∙ rw ended
+        ∙ rw goes_all
         (same_test (size_of before) (length line) (line_length (drop at t)) 0
         (λ h. omega (arith, g.left, line-length (drop from t)))
         (λ h. omega (arith, g.left, line-length (drop from t)))) in
-        record { told = rw (whole, ended, ← g.here) s; letters = rw ended l; all = n }
+        rw (whole, goes_all, ← g.here)
 
 -- ---- What the answer says
 
-module _ (line : List ℕ) (from : ℕ) (r : Summary) (forms : List ℕ) (numbers : List ℤ) (g : Gathers line from r forms numbers) where
-  -- all words have their form, or not
-  is_formed : is_some (words line) ≡ r.formed
-  unfolding summary_of
-  is_formed = sym (ap (λ (s : Summary). s.formed) g.told)
+module _ (from : ℕ) (line : List ℕ) where
+  abbrev place : ℕ
+  place = from + size_of (formed_words line)
 
-  pub gathers_words : words line ≡ cond r.formed (some (formed_words line)) none
+  abbrev malformed : Malformed
+  malformed = record { at = place }
+
+  -- all words have their form, and they end where the line does
+  pub ended_ok : (end : ℕ) → ended from line ≡ Ok end → (words line ≡ Some (formed_words line)) × (end ≡ from + length line)
   unfolding words
-  gathers_words = rw (sym (all_formed line) ∙ is_formed)
+  ended_ok end = rw (all_formed line) (go (eqb (size_of (formed_words line)) (length line)) refl)
+    where
+      go :
+          (t : Bool) → eqb (size_of (formed_words line)) (length line) ≡ t
+          → cond t (Ok place) (Err malformed) ≡ Ok end
+          → (cond t (Some (formed_words line)) None ≡ Some (formed_words line)) × (end ≡ from + length line)
+      go true f e = let here : place ≡ end = cc in (refl, omega (arith, eqb-true (size_of (formed_words line)) (length line) f))
+      go false f e = cc
 
-  -- they end where the line does
-  pub gathers_end : r.formed ≡ true → r.end ≡ from + length line
-  unfolding summary_of
-  gathers_end t =
-      ap (λ (s : Summary). s.end) g.told
-      ∙ ap (◌+◌ from) (eqb-true (size_of (formed_words line)) (length line) (sym (all_formed line) ∙ is_formed ∙ t))
+  -- or one has not
+  pub ended_err : (m : Malformed) → ended from line ≡ Err m → words line ≡ None
+  ended_err m = go (words line)
+    where
+      go :
+          (o : Option (List LetterWord))
+          → cond (is_some o) (Ok place) (Err malformed) ≡ Err m
+          → o ≡ None
+      go None e = refl
+      go (Some ws) e = cc

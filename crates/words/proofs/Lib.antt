@@ -1,9 +1,7 @@
-pub mod Tests
 pub mod Bytes
 pub mod Numerals
 pub mod Word
 pub mod ByLetter
-pub mod Summaries
-pub mod Keeping
-pub mod Line
+pub mod Adding
+pub mod FirstLine
 pub mod Gathering

@@ -13,7 +13,7 @@ use lib.Seq.{drop-drop, get_or-drop}
 use borrow.Author.Tests.{eqb-true}
 use Rattle.aries.specs.Text.{is_digit}
 use Rattle.aries.specs.Words.{Digits, digits, hundredths}
-use Rattle.words.specs.Reading.{Held, held, meant}
+use Rattle.words.specs.Digits.{Held, held, meant}
 use Rattle.words.proofs.Bytes.{digit_high}
 
 -- ---- one step

@@ -1,10 +1,10 @@
 -- Laws of `number` and `word`: a word by its letter, the byte where its sign is due and its number; what holds of both;
 -- and what the code answers of them.
 -- Assumes nothing.
+use Rattle.std.specs.Prelude.{None, Option, Some, option_map}
 use mathlib.Core.Path.{◌≡◌, refl, ap, ◌∙◌, subst}
-use mathlib.Core.Bool.{Bool, true, false, cond, ◌&&◌, and-false}
+use mathlib.Core.Bool.{Bool, true, false, cond}
 use mathlib.Core.List.{List}
-use mathlib.Core.Option.{Option, none, some}
 use Prim.Native.Nat.{ℕ, ◌+◌, ◌-◌, ◌≤◌, ◌<◌}
 use native.Mathlib.Nat.{add-zero, add_assoc}
 use native.Mathlib.Omega.{arith}
@@ -12,19 +12,14 @@ use lib.Dec.{eqb, leb, lit<}
 use lib.IntN.{nat_abs}
 use lib.ListN.{length, get_or, drop, length-drop}
 use lib.Seq.{get_or-drop, drop-drop}
-use borrow.Author.Tests.{le-leb, leb-true}
-use Rattle.aries.specs.Test.{within}
+use borrow.Author.Tests.{leb-true}
 use Rattle.aries.specs.Text.{minus, point, is_capital}
-use Rattle.aries.specs.Words.{Digits, LetterWord, digits, is_sign, front_size, word_of, word}
+use Rattle.aries.specs.Words.{Digits, LetterWord, digits, is_sign, hundredths, front_size, word_of, word}
 use Rattle.signed.proofs.Integers.{abs_with_sign}
-use Rattle.signed.proofs.Tests.{and_left, and_right}
 use Rattle.words.specs.declared.Number.{Number}
 use Rattle.words.specs.declared.Reading.{Reading}
-use Rattle.words.specs.Keeping.{word_in}
-use Rattle.words.specs.Reading.{number_of, number, no_reading, reading_of, reading_at}
-use Rattle.words.proofs.Tests.{cond_same}
+use Rattle.words.specs.Reading.{number_of, number, reading_of, reading_at}
 use Rattle.words.proofs.Bytes.{test_inside, front_inside}
-use Rattle.words.proofs.Keeping.{form-word, form_positive}
 use Rattle.words.proofs.Numerals.{Bounded, digits_bounded, below_power, hundredths-small}
 
 -- ---- a number
@@ -37,6 +32,12 @@ pub number_at :
 unfolding number
 number_at t from whole e = simp (get_or-drop, drop-drop, ← e, ← add_assoc)
 
+-- what holds of a number that was read: it takes a byte at least and none past the end, and its value is below 10^6
+pub record Sound (bs : List ℕ) (n : Number) : Type 0 where
+  pub some_bytes : 0 < n.size
+  pub inside : n.size ≤ length bs
+  pub small : n.value < 1000000
+
 module _ (bs : List ℕ) where
   abbrev whole : Digits
   whole = digits 6 0 0 bs
@@ -47,10 +48,9 @@ module _ (bs : List ℕ) where
   abbrev decimals : Digits
   decimals = digits 2 0 0 (drop (whole.count + 1) bs)
 
-  -- it lies within the bytes, and its value is below 10^6
-  pub number_small : ((number bs).size ≤ length bs) × ((number bs).value < 1000000)
+  pub number_sound : (n : Number) → number bs ≡ Some n → Sound bs n
   unfolding number
-  number_small = go (eqb stop point) (within 1 4 whole.count) refl refl
+  number_sound n = go (leb 1 whole.count) (eqb stop point) (leb whole.count 4) refl refl refl
     where
       w : Bounded 6 0 bs whole
       w = digits_bounded 6 0 0 bs (lit< tt)
@@ -59,42 +59,48 @@ module _ (bs : List ℕ) where
       d = digits_bounded 2 0 0 (drop (whole.count + 1) bs) (lit< tt)
 
       go :
-          (s t : Bool) → eqb stop point ≡ s → within 1 4 whole.count ≡ t
-          → ((number bs).size ≤ length bs) × ((number bs).value < 1000000)
-      go false t e f =
-          simp e
-          (omega (arith, w.inside), below_power whole.value whole.count 6 w.small (omega (arith, w.few)))
-      go true false e f = simp (e, f) (omega arith, lit< tt)
-      go true true e f =
-          let h : whole.count < length bs = test_inside (λ (b : ℕ). eqb b point) bs whole.count refl e in
-          let k : whole.count ≤ 4 =
-          leb-true whole.count 4 (and_right (leb 1 whole.count) (leb whole.count 4) f) in
-          simp (e, f) (
-            omega (arith, d.inside, length-drop (whole.count + 1) bs),
-            hundredths-small whole decimals (below_power whole.value whole.count 4 w.small k) d.small
-                (omega (arith, d.few)),
-          )
+          (p q r : Bool) → leb 1 whole.count ≡ p → eqb stop point ≡ q → leb whole.count 4 ≡ r
+          → number bs ≡ Some n → Sound bs n
+      go false q r e f g s = let z = simp e at s in cc
+      go true false r e f g s =
+          let z = simp (e, f) at s in
+          let m : record { value = whole.value; pointed = false; size = whole.count } ≡ n = cc in
+          subst (Sound bs) m
+          (record {
+            some_bytes = leb-true 1 whole.count e;
+            inside = omega (arith, w.inside);
+            small = below_power whole.value whole.count 6 w.small (omega (arith, w.few));
+          })
+      go true true false e f g s = let z = simp (e, f, g) at s in cc
+      go true true true e f g s =
+          let z = simp (e, f, g) at s in
+          let m : record { value = hundredths whole decimals; pointed = true; size = whole.count + 1 + decimals.count } ≡ n = cc in
+          let h : whole.count < length bs = test_inside (λ (b : ℕ). eqb b point) bs whole.count refl f in
+          let k : whole.count ≤ 4 = leb-true whole.count 4 g in
+          subst (Sound bs) m
+          (record {
+            some_bytes = omega arith;
+            inside = omega (arith, d.inside, length-drop (whole.count + 1) bs);
+            small = hundredths-small whole decimals (below_power whole.value whole.count 4 w.small k) d.small (omega (arith, d.few));
+          })
 
 -- a number at a place of a text
 pub number_fits :
-    (t : List ℕ) (from : ℕ) (n : Number) → from ≤ length t → n ≡ number (drop from t)
+    (t : List ℕ) (from : ℕ) (n : Number) → from ≤ length t → number (drop from t) ≡ Some n
     → (from + n.size ≤ length t) × (n.value < 1000000)
 number_fits t from n h e =
-    let s = number_small (drop from t) in
-    rw e (omega (arith, s.0, length-drop from t), s.1)
+    let s = number_sound (drop from t) n e in
+    (omega (arith, s.inside, length-drop from t), s.small)
 
 -- ---- a word by its number
 
 -- from its letter, the byte where its sign is due, how many bytes these take, and its number
-abbrev pub read_of : ℕ → ℕ → ℕ → Number → Option LetterWord
-read_of letter sign front n =
-    cond (is_capital letter && leb 1 n.size)
-    (some (record {
-      letter = letter;
-      word = word_of (is_sign sign) (eqb sign minus) n.pointed n.value;
-      size = front + n.size;
-    }))
-    none
+abbrev pub word_by : ℕ → ℕ → ℕ → Number → LetterWord
+word_by letter sign front n =
+    record { letter = letter; word = word_of (is_sign sign) (eqb sign minus) n.pointed n.value; size = front + n.size }
+
+abbrev pub read_of : ℕ → ℕ → ℕ → Option Number → Option LetterWord
+read_of letter sign front o = cond (is_capital letter) (option_map (word_by letter sign front) o) None
 
 module _ (bs : List ℕ) where
   abbrev first : Digits
@@ -111,18 +117,16 @@ module _ (bs : List ℕ) where
   unfolding word
   word_number =
       rw (number_at bs (front_size bs) first refl)
-      (go (eqb behind point) (leb 1 first.count) (leb first.count 4) refl refl refl)
+      (go (is_capital (get_or bs 0 0)) (leb 1 first.count) (eqb behind point) (leb first.count 4) refl refl refl refl)
     where
       go :
-          (q p r : Bool) → eqb behind point ≡ q → leb 1 first.count ≡ p → leb first.count 4 ≡ r
+          (a p q r : Bool) → is_capital (get_or bs 0 0) ≡ a → leb 1 first.count ≡ p → eqb behind point ≡ q → leb first.count 4 ≡ r
           → word bs ≡ read_of (get_or bs 0 0) (get_or bs 1 0) (front_size bs) (number_of first behind second)
-      go false p r g e h = simp g
-      go true false r g e h = simp (e, g, and-false)
-      go true true false g e h =
-          simp (e, g, h, and-false) (cond_same (is_capital (get_or bs 0 0) && true) none)
-      go true true true g e h =
-          let k = le-leb 1 (first.count + 1 + second.count) (omega arith) in
-          simp (e, g, h, k) (simp add_assoc)
+      go false p q r d e f g = simp d
+      go true false q r d e f g = simp (d, e)
+      go true true false r d e f g = simp (d, e, f)
+      go true true true false d e f g = simp (d, e, f, g)
+      go true true true true d e f g = simp (d, e, f, g, add_assoc)
 
 -- what holds of a word that was read from a line: its letter, its size and its value
 pub record Formed (bs : List ℕ) (r : LetterWord) : Type 0 where
@@ -131,51 +135,33 @@ pub record Formed (bs : List ℕ) (r : LetterWord) : Type 0 where
   pub some_bytes : 0 < r.size
   pub inside : r.size ≤ length bs
   pub small : nat_abs r.word.value ≤ 999999
-  pub written : r.word.written ≡ true
 
-module _ (bs : List ℕ) (r : LetterWord) (e : word bs ≡ some r) where
-  abbrev n : Number
-  n = number (drop (front_size bs) bs)
-
-  abbrev found : LetterWord
-  found =
-      record {
-        letter = get_or bs 0 0;
-        word = word_of (is_sign (get_or bs 1 0)) (eqb (get_or bs 1 0) minus) n.pointed n.value;
-        size = front_size bs + n.size;
-      }
-
+module _ (bs : List ℕ) (r : LetterWord) (e : word bs ≡ Some r) where
   pub formed : Formed bs r
-  formed = go (is_capital (get_or bs 0 0) && leb 1 n.size) refl
+  formed = go (is_capital (get_or bs 0 0)) (number (drop (front_size bs) bs)) refl refl
     where
-      go : (t : Bool) → (is_capital (get_or bs 0 0) && leb 1 n.size) ≡ t → Formed bs r
-      go false g =
-          let z : word bs ≡ none = word_number bs ∙ simp g in
-          let o : ◌≡◌ {A = ℕ} 0 1 = cc in
-          absurd (omega arith)
-      go true g =
-          let c : is_capital (get_or bs 0 0) ≡ true = and_left (is_capital (get_or bs 0 0)) (leb 1 n.size) g in
-          let b : 1 ≤ n.size = leb-true 1 n.size (and_right (is_capital (get_or bs 0 0)) (leb 1 n.size) g) in
-          let s = number_small (drop (front_size bs) bs) in
-          let z : word bs ≡ some found = word_number bs ∙ simp g in
-          let q : found ≡ r = cc in
-          subst (Formed bs) q
+      go : (c : Bool) (o : Option Number) → is_capital (get_or bs 0 0) ≡ c → number (drop (front_size bs) bs) ≡ o → Formed bs r
+      go false o f g = let z : word bs ≡ None = word_number bs ∙ simp f in cc
+      go true None f g = let z : word bs ≡ None = word_number bs ∙ simp (f, g) in cc
+      go true (Some n) f g =
+          let z : word bs ≡ Some (word_by (get_or bs 0 0) (get_or bs 1 0) (front_size bs) n) = word_number bs ∙ simp (f, g) in
+          let m : word_by (get_or bs 0 0) (get_or bs 1 0) (front_size bs) n ≡ r = cc in
+          let s = number_sound (drop (front_size bs) bs) n g in
+          subst (Formed bs) m
           (record {
-            capital = c;
-            some_bytes = omega arith;
-            inside = omega (arith, s.0, front_inside bs 0 (front_size bs) c refl, length-drop (front_size bs) bs);
-            small = rw (abs_with_sign (eqb (get_or bs 1 0) minus) n.value) (omega (arith, s.1));
-            written = refl;
+            capital = f;
+            some_bytes = omega (arith, s.some_bytes);
+            inside = omega (arith, s.inside, front_inside bs 0 (front_size bs) f refl, length-drop (front_size bs) bs);
+            small = rw (abs_with_sign (eqb (get_or bs 1 0) minus) n.value) (omega (arith, s.small));
           })
 
 -- what holds of a word wherever it was read
 pub record WellFormed (r : LetterWord) : Type 0 where
   pub capital : is_capital r.letter ≡ true
-  pub written : r.word.written ≡ true
   pub small : nat_abs r.word.value ≤ 999999
 
-pub well_formed : (bs : List ℕ) (r : LetterWord) → word bs ≡ some r → WellFormed r
-well_formed bs r e = let f = formed bs r e in record { capital = f.capital; written = f.written; small = f.small }
+pub well_formed : (bs : List ℕ) (r : LetterWord) → word bs ≡ Some r → WellFormed r
+well_formed bs r e = let f = formed bs r e in record { capital = f.capital; small = f.small }
 
 -- ---- the code's answer
 
@@ -186,47 +172,40 @@ module _ (t : List ℕ) (at : ℕ) where
   word_at front f = word_number (drop at t) ∙ simp (get_or-drop, drop-drop, ← f, add-zero)
 
   -- no letter, no word
-  pub reading_none : is_capital (get_or t at 0) ≡ false → no_reading ≡ reading_at at (word (drop at t))
+  pub reading_none : is_capital (get_or t at 0) ≡ false → None ≡ reading_at at (word (drop at t))
   reading_none e = rw (word_at (cond (is_sign (get_or t (at + 1) 0)) 2 1) refl) (simp e)
 
   -- a letter, and then a number or none
-  pub reading_some :
-      (letter sign front : ℕ) (n : Number) → letter ≡ get_or t at 0 → sign ≡ get_or t (at + 1) 0
-      → n ≡ number (drop (at + front) t) → is_capital (get_or t at 0) ≡ true
-      → front ≡ cond (is_sign (get_or t (at + 1) 0)) 2 1
-      → reading_of letter sign (at + front) n ≡ reading_at at (word (drop at t))
-  reading_some letter sign front n l s m c f = rw (word_at front f, ← l, ← s, ← m) (go (leb 1 n.size) refl)
+  module _
+      (letter sign front : ℕ) (o : Option Number) (l : letter ≡ get_or t at 0) (s : sign ≡ get_or t (at + 1) 0)
+      (m : o ≡ number (drop (at + front) t)) (c : is_capital (get_or t at 0) ≡ true)
+      (f : front ≡ cond (is_sign (get_or t (at + 1) 0)) 2 1)
     where
-      go :
-          (b : Bool) → leb 1 n.size ≡ b
-          → reading_of letter sign (at + front) n ≡ reading_at at (read_of letter sign front n)
-      go true e = simp (ap is_capital l ∙ c, e, add_assoc)
-      go false e = simp (ap is_capital l ∙ c, e)
+      pub reading_some : option_map (reading_of letter sign (at + front)) o ≡ reading_at at (word (drop at t))
+      reading_some = rw (word_at front f, ← l, ← s, ← m) (go o)
+        where
+          capital : is_capital letter ≡ true
+          capital = ap is_capital l ∙ c
+
+          go : (o : Option Number) → option_map (reading_of letter sign (at + front)) o ≡ reading_at at (read_of letter sign front o)
+          go None = simp capital
+          go (Some n) = simp (capital, add_assoc)
 
 -- ---- what an answer says of the word
 
 -- the word, by the code's answer
 abbrev pub read_as : ℕ → Reading → LetterWord
-read_as at r = record { letter = r.letter; word = word_in r.form r.number; size = r.end - at }
+read_as at r = record { letter = r.letter; word = r.word; size = r.end - at }
 
--- no form, no word
-pub answer_none : (at : ℕ) (o : Option LetterWord) (r : Reading) → r ≡ reading_at at o → r.form ≡ 0 → o ≡ none
-answer_none at none r e z = refl
-answer_none at (some v) r e z =
-    let f : r.form ≡ (reading_at at (some v)).form = ap (λ (q : Reading). q.form) e in
-    absurd (omega (arith, form_positive v.word.signed v.word.pointed))
+pub answer_none : (at : ℕ) (o : Option LetterWord) → None ≡ reading_at at o → o ≡ None
+answer_none at None e = refl
+answer_none at (Some v) e = cc
 
 -- a word, and the place past it
 pub answer_some :
-    (bs : List ℕ) (at : ℕ) (r : Reading) → r ≡ reading_at at (word bs) → (r.form ≡ 0 → ⊥)
-    → (word bs ≡ some (read_as at r)) × (at ≤ r.end)
-answer_some bs at r e z = go (word bs) refl
-  where
-    go : (o : Option LetterWord) → word bs ≡ o → (word bs ≡ some (read_as at r)) × (at ≤ r.end)
-    go none f =
-        let q : r.form ≡ 0 = ap (λ (q : Reading). q.form) (e ∙ ap (reading_at at) f) in
-        absurd (z q)
-    go (some v) f =
-        let q : r ≡ reading_at at (some v) = e ∙ ap (reading_at at) f in
-        let s : at + v.size - at ≡ v.size = omega arith in
-        rw q (f ∙ rw (form-word v.word (formed bs v f).written, s), omega arith)
+    (at : ℕ) (o : Option LetterWord) (r : Reading) → Some r ≡ reading_at at o → (o ≡ Some (read_as at r)) × (at ≤ r.end)
+answer_some at None r e = cc
+answer_some at (Some v) r e =
+    let q : r ≡ record { letter = v.letter; word = v.word; end = at + v.size } = cc in
+    let s : at + v.size - at ≡ v.size = omega arith in
+    rw q (rw s, omega arith)

@@ -1,3 +1,3 @@
-pub mod Keeping
+pub mod Digits
 pub mod Reading
-pub mod Gathering
+pub mod Line

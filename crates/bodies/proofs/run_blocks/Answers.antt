@@ -1,32 +1,27 @@
 -- A stretch, and what follows it.
-use mathlib.Core.Path.{sym, ◌∙◌}
-use native.Mathlib.Omega.{arith}
+use Rattle.std.specs.Prelude.{Err}
+use mathlib.Core.Path.{◌≡◌}
+use borrow.Author.Rules.{rules}
 use Rattle.aries.specs.Judging.{limits}
 use Rattle.aries.specs.Macros.{bodies_of, call}
-use Rattle.aries.proofs.Steady.{steady_less}
-use Rattle.bodies.proofs.Rest.{lines-over, lines_left, left_fits, ended_given}
+use Rattle.bodies.proofs.Rest.{lines_refused, lines_left, left_fits, left_given}
 use Rattle.bodies.proofs.run_blocks.Goals as goal
 
-pub run_stretch-stretch-requires-clause-steady : goal.run_stretch-stretch-requires-clause-steady
-run_stretch-stretch-requires-clause-steady c = steady_less (omega arith) c.requires.steady
-
-pub returns-then-is_end : goal.returns-then-is_end
-returns-then-is_end c =
+pub returns-in_err-stretch : goal.returns-in_err-stretch
+returns-in_err-stretch c =
     let a = c.args in
-    lines-over (call (limits a.frame.job) (bodies_of a.text.now a.macros) a.depth) a.body.now a.from.at a.from.line c.run_stretch-stretch.ensures (sym c.is_end.ensures ∙ c.if-is_end.true)
+    let e : c.from_residual.result ≡ Err c.in_err-stretch.field-0.0 = search rules in
+    rw e (lines_refused (call (limits a.frame.job) (bodies_of a.text.now a.macros.now) a.depth) a.body.now a.from a.frame a.progress c.in_err-stretch.ensures)
 
-pub run_rest-requires : goal.run_rest-requires
-run_rest-requires c =
-    let a = c.args in
-    let calls = call (limits a.frame.job) (bodies_of a.text.now a.macros) a.depth in
-    let ran = c.run_stretch-stretch.ensures in
-    record {
-      rest_fits = left_fits calls a.body.now a.from.at a.from.line ran c.requires.given_near c.requires.lines_fit;
-      steady = c.requires.steady;
-      given_near = ended_given calls a.body.now a.from.at a.from.line ran c.requires.given_near (sym c.is_end.ensures ∙ c.if-is_end.false);
-    }
+pub finish_body-requires-clause-rest_fits : goal.finish_body-requires-clause-rest_fits
+finish_body-requires-clause-rest_fits c =
+    let a = c.args in left_fits a.body.now a.from a.frame a.progress c.in_ok-stretch.ensures c.requires.given_near c.requires.lines_fit
+
+pub finish_body-requires-clause-given_near : goal.finish_body-requires-clause-given_near
+finish_body-requires-clause-given_near c =
+    let a = c.args in left_given a.body.now a.from a.frame a.progress c.in_ok-stretch.ensures c.requires.given_near
 
 pub returns : goal.returns
 returns c =
     let a = c.args in
-    lines_left (call (limits a.frame.job) (bodies_of a.text.now a.macros) a.depth) a.body.now a.from.at a.from.line c.run_stretch-stretch.ensures (sym c.is_end.ensures ∙ c.if-is_end.false) _ _ _ c.run_rest.ensures
+    lines_left (call (limits a.frame.job) (bodies_of a.text.now a.macros.now) a.depth) a.body.now a.from a.frame a.progress c.in_ok-stretch.ensures _ _ c.finish_body.ensures

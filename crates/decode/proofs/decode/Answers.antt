@@ -1,87 +1,95 @@
 -- The words are read, judged, and the block of their kind is made from them (`LineWords`); they end where the line does.
+use Rattle.std.specs.Prelude.{Some, Ok}
+use borrow.Author.Rules.{rules}
 use mathlib.Core.Path.{◌≡◌, sym, ap, ap₂, ◌∙◌}
-use mathlib.Core.Bool.{true}
 use mathlib.Core.List.{List}
 use Prim.Native.Nat.{ℕ, ◌+◌}
-use borrow.Author.Tests.{not-true, not-false}
-use lib.IntN.{ℤ}
-use Rattle.aries.specs.declared.block.Decoded.TheVariants as Decoded
+use Rattle.aries.specs.declared.block.Instruction.{Instruction}
 use Rattle.aries.specs.declared.block.Block.{Block}
+use Rattle.aries.specs.Words.{LetterWord, formed_words, words}
 use Rattle.aries.specs.ByLetter.{Letters}
-use Rattle.aries.specs.Blocks.{decode}
+use Rattle.aries.specs.Blocks.{decoded, decode}
 use Rattle.text.specs.Lines.{line_at, line_end}
-use Rattle.words.specs.declared.Summary.{Summary}
-use Rattle.words.specs.Keeping.{letters_of}
-use Rattle.words.proofs.Line.{line-length}
-use Rattle.words.proofs.Gathering.{gathers_end}
-use Rattle.decode.proofs.LineWords.{instruction_by, line_malformed, line_sized, line-ranged, line_decodes}
-use Rattle.decode.proofs.decode.Goals.{After-judge-judged, After-read_words-summary}
+use Rattle.words.specs.declared.Line.{Line}
+use Rattle.words.specs.Line.{line_of}
+use Rattle.words.proofs.FirstLine.{line-length}
+use Rattle.words.proofs.Gathering.{AllFormed, front_formed, ended_ok, ended_err}
+use Rattle.lengths.proofs.Sized.{by_letter_sized}
+use Rattle.blocks.specs.Decoding.{judged_of, line_left}
+use Rattle.decode.proofs.LineWords.{instruction_by, judged_decodes, judged-ranged}
+use Rattle.decode.proofs.decode.Goals.{After-judge, After-read, In-Ok}
 use Rattle.decode.proofs.decode.Goals as goal
 
--- the line, and what is kept of its words
-module _ (c : After-read_words-summary) where
+-- the line at the place, and its words
+module _ (c : After-read) where
   abbrev line : List ℕ
   line = line_at c.args.text.now c.args.at
 
-  abbrev summary : Summary
-  summary = c.read_words-summary.result
+  abbrev ws : List LetterWord
+  ws = formed_words line
 
-  abbrev forms : List ℕ
-  forms = c.read_words-summary.new.forms
+  formed : AllFormed ws
+  formed = front_formed _ line
 
-  abbrev numbers : List ℤ
-  numbers = c.read_words-summary.new.numbers
-
-  ends : summary.formed ≡ true → summary.end ≡ line_end c.args.text.now c.args.at
-  ends formed =
-      gathers_end line c.args.at summary forms numbers c.read_words-summary.ensures formed
-      ∙ ap (λ (n : ℕ). c.args.at + n) (line-length _)
-
-pub returns-then-not-summary : goal.returns-then-not-summary
-returns-then-not-summary c =
-    let r = (goal.at.returns-then-not-summary c).After-read_words-summary in
-    rw (line_malformed c.args.reader (line r) c.args.at (summary r) (forms r) (numbers r) c.read_words-summary.ensures (not-true (summary r).formed c.if-not-summary.true))
+pub returns-in_default : goal.returns-in_default
+unfolding decode
+returns-in_default c =
+    let r = (goal.at.returns-in_default c).After-read in
+    rw (ended_err c.args.at (line r) c.in_default.field-0 (sym c.read.ensures.end ∙ c.in_default.is))
 
 -- all words have their form
-pub judge-judged-requires : goal.judge-judged-requires
-judge-judged-requires c =
-    let r = (goal.at.judge-judged-requires c).After-read_words-summary in
-    let gathers = c.read_words-summary.ensures in
-    (line_sized c.args.reader (line r) c.args.at (summary r) (forms r) (numbers r) gathers, gathers.all)
+module _ (c : In-Ok) where
+  ended : (words (line_at c.args.text.now c.args.at) ≡ Some (formed_words (line_at c.args.text.now c.args.at))) × (c.in-Ok.end ≡ line_end c.args.text.now c.args.at)
+  ended =
+      let e = ended_ok c.args.at (line_at c.args.text.now c.args.at) c.in-Ok.end (sym c.read.ensures.end ∙ c.in-Ok.is) in
+      (e.0, e.1 ∙ ap (λ (n : ℕ). c.args.at + n) (line-length _))
+
+pub judge-requires : goal.judge-requires
+unfolding line_of
+judge-requires c =
+    let r = (goal.at.judge-requires c).After-read in
+    rw c.read.ensures.words (by_letter_sized (ws r) (formed r))
 
 -- they are judged, and their lengths and angles are in hundredths
-module _ (c : After-judge-judged) where
-  abbrev left : Letters
-  left = letters_of c.read_words-summary.new.forms c.judge-judged.new.numbers
+module _ (c : After-judge) where
+  abbrev here : List LetterWord
+  here = formed_words (line_at c.args.text.now c.args.at)
 
-  decodes : decode c.args.reader (line_at c.args.text.now c.args.at) ≡ instruction_by left c.judge-judged.result
-  decodes =
-      let w = c.read_words-summary in
-      line_decodes c.args.reader (line_at c.args.text.now c.args.at) c.args.at w.result w.new.forms w.new.numbers w.ensures
-      left c.judge-judged.ensures.numbers_after (not-false w.result.formed c.if-not-summary.false)
-      ∙ ap (instruction_by left) (sym c.judge-judged.ensures.value)
+  abbrev left : Letters
+  left = c.judge.new.line.words.letters
+
+  left-is : left ≡ (line_left c.args.reader (line_of here)).words.letters
+  left-is = ap (λ (l : Line). l.words.letters) (c.judge.ensures.left ∙ ap (line_left c.args.reader) c.read.ensures.words)
+
+  judged-is : c.judge.result ≡ judged_of c.args.reader (line_of here)
+  judged-is = c.judge.ensures.value ∙ ap (judged_of c.args.reader) c.read.ensures.words
+
+  -- so the line is decoded
+  decodes : words (line_at c.args.text.now c.args.at) ≡ Some here → decode c.args.reader (line_at c.args.text.now c.args.at) ≡ instruction_by left c.judge.result
+  unfolding decode
+  decodes e =
+      ap (decoded c.args.reader) e
+      ∙ judged_decodes c.args.reader here (front_formed _ (line_at c.args.text.now c.args.at))
+      ∙ ap₂ instruction_by (sym left-is) (sym judged-is)
 
 pub block_of-block-requires : goal.block_of-block-requires
 block_of-block-requires c =
     let g = goal.at.block_of-block-requires c in
-    let r = g.After-read_words-summary in
-    let j = g.After-judge-judged in
-    let k = c.in-Of in
-    let ranged =
-    line-ranged c.args.reader (line r) c.args.at (summary r) (forms r) (numbers r) c.read_words-summary.ensures
-    (left j) c.judge-judged.ensures.numbers_after k.kind k.measure (sym c.judge-judged.ensures.value ∙ k.is) in
-    record { sized = ranged.0; kind_value = ranged.1 }
+    let j = g.After-judge in
+    let r = g.After-read in
+    let ranged = judged-ranged c.args.reader (ws r) (formed r) c.in_ok-kind.kind c.in_ok-kind.measure (sym (judged-is j) ∙ c.in_ok-kind.was) in
+    rw (left-is j) (record { sized = ranged.0; ranged = ranged.1 })
 
-pub returns-in-Of : goal.returns-in-Of
-returns-in-Of c =
-    let g = goal.at.returns-in-Of c in
-    let j = g.After-judge-judged in
-    let k = c.in-Of in
-    rw (decodes j ∙ ap (instruction_by (left j)) k.is)
-    (ap₂ (λ (b : Block) (n : ℕ). Decoded.Instruction (record { measure = k.measure; block = b }) n) c.block_of-block.ensures
-    (ends g.After-read_words-summary (not-false c.read_words-summary.result.formed c.if-not-summary.false)))
+pub returns : goal.returns
+returns c =
+    let g = goal.at.returns c in
+    let j = g.After-judge in
+    let e = ended g.In-Ok in
+    rw (decodes j e.0 ∙ ap (instruction_by (left j)) c.in_ok-kind.was)
+    (ap₂ (λ (b : Block) (n : ℕ). Ok (record { measure = c.in_ok-kind.measure; block = b }, n)) c.block_of-block.ensures e.1)
 
-pub returns-in-Refused : goal.returns-in-Refused
-returns-in-Refused c =
-    let j = (goal.at.returns-in-Refused c).After-judge-judged in
-    rw (decodes j ∙ ap (instruction_by (left j)) c.in-Refused.is)
+pub returns-in_err-kind : goal.returns-in_err-kind
+returns-in_err-kind c =
+    let g = goal.at.returns-in_err-kind c in
+    let j = g.After-judge in
+    rw (decodes j (ended g.In-Ok).0 ∙ ap (instruction_by (left j)) c.in_err-kind.was) (search rules)

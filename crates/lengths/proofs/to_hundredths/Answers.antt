@@ -1,15 +1,22 @@
 -- At setting 1 the words are left (`hundredths-written`), and nothing is limited.
-use mathlib.Core.Path.{refl, sym}
-use Rattle.aries.specs.Numbers.{lengths_fit}
+use mathlib.Core.Path.{refl, sym, ap, ◌∙◌}
+use Rattle.aries.specs.ByLetter.{Letters}
+use Rattle.aries.specs.Numbers.{in_hundredths, lengths_fit}
 use Rattle.aries.proofs.Settings.{hundredths-written}
-use Rattle.words.specs.Keeping.{letters_of}
+use Rattle.lengths.specs.Hundredths.{is_apart}
+use Rattle.lengths.proofs.Hundredths.{kinds_apart}
 use Rattle.lengths.proofs.to_hundredths.Goals as goal
 
 pub returns-in-Hundredths : goal.returns-in-Hundredths
 unfolding lengths_fit
 returns-in-Hundredths c =
-    let a = c.args in
-    rw c.in-Hundredths.is (record { numbers_after = sym (hundredths-written a.kind (letters_of a.forms.now a.numbers.now)); value = refl })
+    let w = c.args.words.now in
+    rw c.in-Hundredths.is
+    (record { put = ap (λ (l : Letters). record { letters = l; code = w.code; measure = w.measure }) (sym (hundredths-written c.args.kind w.letters)); near = refl })
+
+pub all_to_hundredths-requires : goal.all_to_hundredths-requires
+all_to_hundredths-requires c = record { apart = ap is_apart c.lengths_of.ensures ∙ kinds_apart c.args.kind; sized = c.requires }
 
 pub returns-in-Millimetres : goal.returns-in-Millimetres
-returns-in-Millimetres c = rw c.in-Millimetres.is c.kind_to_hundredths.ensures
+unfolding in_hundredths lengths_fit
+returns-in-Millimetres c = rw (c.in-Millimetres.is, ← c.lengths_of.ensures) (record { put = c.all_to_hundredths.ensures.put; near = c.all_to_hundredths.ensures.near })

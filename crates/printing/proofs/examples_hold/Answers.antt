@@ -7,4 +7,4 @@ use Rattle.printing.proofs.examples_hold.Goals as goal
 
 pub returns : goal.returns
 unfolding bytes digits decimal signed_decimal lines_of entry_line tool_line head_line refusal_line listing
-returns c = record { refused = refl; nibbled = refl; empty = refl }
+returns c = record { refusal = refl; nibbled = refl; empty = refl }

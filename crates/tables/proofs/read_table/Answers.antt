@@ -1,126 +1,102 @@
-use mathlib.Core.Path.{◌≡◌, refl, sym, ap, ◌∙◌}
+-- A line more is blank, bad or a row.
+use mathlib.Core.Path.{◌≡◌, sym, ◌∙◌}
 use mathlib.Core.List.{List, ◌∷◌}
-use Prim.Native.Nat.{ℕ, ◌+◌, ◌-◌, ◌*◌, ◌/◌, ◌≤◌, ◌<◌}
+use Prim.Native.Nat.{ℕ, ◌+◌, ◌/◌}
 use native.Mathlib.Omega.{arith}
-use borrow.Author.Tests.{not-true, not-false, le-leb, lt-leb}
-use lib.ListN.{length, take, drop, length-set}
-use Rattle.aries.specs.Text.{lines}
-use Rattle.text.proofs.Lines.{line-inside, lines-past}
-use Rattle.tables.specs.declared.row.Row.{Row}
-use Rattle.tables.specs.Rows.{row_of}
-use Rattle.tables.specs.Tables.{rows_from, with_numbers, table_of}
-use Rattle.tables.proofs.Tables.{prefixed, prefixed_none, line_at, after_blank, after-row, at-bad, at_many, reads_rows, reads_bad}
-use Rattle.tables.proofs.read_table.Goals.{After-line_end-end, After-read_row-row, then-not-row+else-not-row-2+else-table-rows, else-not-row}
+use lib.Dec.{eqb}
+use lib.ListN.{length, drop}
+use Rattle.std.proofs.Common.{rules, tests}
+use Rattle.std.proofs.lemmas.Iterator.Consumers.{YieldsList-at, YieldsList-from_enumerate, YieldsList-turn, YieldsList-end}
+use Rattle.std.proofs.lemmas.Iterator.Splits.{YieldsList-from_slice_split}
+use Rattle.std.proofs.lemmas.Iterator.{YieldsList}
+use Rattle.std.proofs.lemmas.List.{length_push}
+use Rattle.std.proofs.lemmas.Result.{err_from_is_err_and}
+use Rattle.std.specs.Prelude.{Some, None}
+use Rattle.std.specs.List.{enumerate_from}
+use Rattle.std.specs.declared.iter.Enumerate.{Enumerate}
+use Rattle.std.specs.declared.slice.Split.{Split}
+use Rattle.aries.specs.Text.{line_feed}
+use Rattle.tables.specs.Tables.{table_of}
+use Rattle.tables.proofs.Tables.{reads_none, past_blank, at_bad, at_many, past_row, reads_all}
+use Rattle.tables.proofs.Parts.{parts, rows_from-parts, part_at, parts_end}
+use Rattle.tables.proofs.read_table.Goals.{After-next, In-Some}
 use Rattle.tables.proofs.read_table.Goals as goal
+use Rattle.tables.proofs.read_table.Given as given
 
--- a line ends within the text
-line-within : (c : After-line_end-end) → c.line_end-end.result ≤ length c.args.text.now
-line-within c =
-    let t = c.args.text.now in
-    omega (arith, c.line_end-end.ensures, line-inside t c.loop-at.at (omega arith))
+-- the loop goes over the numbered parts of the text
+abbrev Numbered : Enumerate (Split ℕ (Unit {0})) → List ℕ → Type 0
+Numbered iterator text = YieldsList given.iterator-loop-before.next_gives (λ p. (p.0, p.1.now)) iterator (enumerate_from 0 (parts text))
 
--- ---- once a line is read
-module _ (c : After-read_row-row) where
-  abbrev text : List ℕ
-  text = c.args.text.now
+numbered : (c : After-next) → Numbered c.into_iter-before-iterator.result c.args.text.now
+numbered c =
+    YieldsList-at c.into_iter-before-iterator.ensures.into_iter_gives
+    (YieldsList-from_enumerate
+    (YieldsList-at c.enumerate-before-items.ensures.source
+    (YieldsList-from_slice_split _ (λ b. eqb b line_feed) c.args.text.now c.split.ensures.rest c.split.ensures.done
+    c.split.ensures.closure
+    (λ x r q k. search (rules, tests))))
+    c.enumerate-before-items.ensures.count)
 
-  abbrev places : ℕ
-  places = length c.args.table.now / 3
+-- the part that is read, and those that are left
+module _ (c : In-Some) where
+  abbrev left : List (List ℕ)
+  left = drop (length c.loop-before.yielded + 1) (parts c.args.text.now)
 
-  abbrev at : ℕ
-  at = c.loop-at.at
+  next :
+      Numbered c.into_iter-before-iterator.result c.args.text.now
+      → (c.in-Some.before ≡ length c.loop-before.yielded)
+      × (drop (length c.loop-before.yielded) (parts c.args.text.now) ≡ c.in-Some.line.now ∷ left)
+  next road =
+      let turn = YieldsList-turn road c.loop-before.yielded _ c.loop-before.yielded_by _ _
+      (c.in-Some.before, c.in-Some.line) c.in-Some.is c.next.ensures.steps in
+      part_at (parts c.args.text.now) (length c.loop-before.yielded) c.in-Some.before c.in-Some.line.now turn.0 turn.1
 
-  abbrev end : ℕ
-  end = c.line_end-end.result
-
-  abbrev row : Row
-  row = c.read_row-row.result
-
-  here : lines (drop at text) ≡ take (end - at) (drop at text) ∷ lines (drop (end + 1) text)
-  here = line_at text at end (omega arith) c.line_end-end.ensures
-
-  blank-is : row.blank ≡ (row_of (take (end - at) (drop at text))).blank
-  blank-is = ap (λ (r : Row). r.blank) c.read_row-row.ensures
-
-  good-is : row.good ≡ (row_of (take (end - at) (drop at text))).good
-  good-is = ap (λ (r : Row). r.good) c.read_row-row.ensures
-
-pub loop-at-init : goal.loop-at-init
+pub loop-before-init : goal.loop-before-init
 unfolding table_of
-loop-at-init c =
-    (omega arith, omega arith, refl, omega arith, prefixed_none (rows_from (length c.args.table.now / 3) 0 1 (lines c.args.text.now)))
-
-pub returns-then-not-row-2 : goal.returns-then-not-row-2
-returns-then-not-row-2 c =
-    let r = (goal.at.returns-then-not-row-2 c).After-read_row-row in
-    let w = c.loop-at in
-    let b = sym (blank-is r) ∙ not-true (row r).blank c.if-not-row.true in
-    let g = sym (good-is r) ∙ not-true (row r).good c.if-not-row-2.true in
-    reads_bad w.line w.table (table_of (places r) (text r)) (at-bad (text r) (places r) (at r) (end r) w.rows w.line w.table (table_of (places r) (text r)) (here r) w.invariant.4 b g)
-
-pub returns-then-table-rows : goal.returns-then-table-rows
-returns-then-table-rows c =
-    let r = (goal.at.returns-then-table-rows c).After-read_row-row in
-    let w = c.loop-at in
-    let b = sym (blank-is r) ∙ not-true (row r).blank c.if-not-row.true in
-    let g = sym (good-is r) ∙ not-false (row r).good c.if-not-row-2.false in
-    reads_bad w.line w.table (table_of (places r) (text r))
-    (at_many (text r) (places r) (at r) (end r) w.rows w.line w.table (table_of (places r) (text r)) (here r) w.invariant.4 b g
-    (le-leb (places r) w.rows (omega (arith, c.if-table-rows.true, w.invariant.2))))
-
-pub overflow_add-at : goal.overflow_add-at
-overflow_add-at c = omega (arith, line-within (goal.at.overflow_add-at c).After-line_end-end)
-
-pub overflow_add-line : goal.overflow_add-line
-overflow_add-line c = omega (arith, c.loop-at.invariant.1, line-within (goal.at.overflow_add-line c).After-line_end-end)
-
-pub loop-at-smaller : goal.loop-at-smaller
-loop-at-smaller c = omega (arith, c.line_end-end.ensures, line-within (goal.at.loop-at-smaller c).After-line_end-end)
-
-pub loop-at-preserved : goal.loop-at-preserved
-loop-at-preserved c =
-    let r = (goal.at.loop-at-preserved c).After-read_row-row in
-    let w = c.loop-at in
-    let inside = line-within (goal.at.loop-at-preserved c).After-line_end-end in
-    elim c.if-not-row.branch [
-      | then-not-row+else-not-row-2+else-table-rows v ↦
-          let b = sym (blank-is r) ∙ not-true (row r).blank v.if-not-row.true in
-          let g = sym (good-is r) ∙ not-false (row r).good v.if-not-row-2.false in
-          let more : w.rows < places r = omega (arith, v.if-table-rows.false, w.invariant.2) in
-          let put = v.table-is ∙ v.put_row.ensures ∙ ap (with_numbers w.table w.rows) c.read_row-row.ensures in (
-            omega (arith, inside),
-            omega (arith, w.invariant.1, c.line_end-end.ensures),
-            rw put (simp length-set w.invariant.2),
-            rw (put, v.rows-is) (simp length-set (omega (arith, more, w.invariant.2))),
-            rw (put, v.rows-is)
-                (after-row (text r) (places r) (at r) (end r) w.rows w.line w.table (table_of (places r) (text r)) (here r) w.invariant.4 b g
-                (lt-leb (places r) w.rows more)
-                (omega (arith, w.invariant.2))),
-          )
-      | else-not-row v ↦
-          let b = sym (blank-is r) ∙ not-false (row r).blank v.if-not-row.false in (
-            omega (arith, inside),
-            omega (arith, w.invariant.1, c.line_end-end.ensures),
-            rw v.table-is w.invariant.2,
-            rw (v.table-is, v.rows-is) w.invariant.3,
-            rw (v.table-is, v.rows-is) (after_blank (text r) (places r) (at r) (end r) w.rows w.line w.table (table_of (places r) (text r)) (here r) w.invariant.4 b),
-          )
-    ]
-
-pub returns : goal.returns
-unfolding rows_from
-returns c =
-    let w = c.loop-at in
+loop-before-init c =
     let t = c.args.text.now in
     let places = length c.args.table.now / 3 in
-    let none = ap (λ (ls : List (List ℕ)). prefixed w.rows (take (3 * w.rows) w.table) (rows_from places w.rows w.line ls)) (lines-past t w.at c.loop-at-test.false) in
-    reads_rows w.rows w.table (table_of places t) (sym none ∙ w.invariant.4) w.invariant.3
+    reads_none (table_of places t) c.args.table.now places (parts t) (rows_from-parts places 1 t)
 
-pub slice_bounds-read_row-count : goal.slice_bounds-read_row-count
-slice_bounds-read_row-count c = omega (arith, line-within c, c.line_end-end.ensures)
+pub loop-before-preserved-then-is_blank : goal.loop-before-preserved-then-is_blank
+loop-before-preserved-then-is_blank c =
+    let at = goal.at.loop-before-preserved-then-is_blank c in
+    let part = next at.In-Some (numbered at.After-next) in
+    rw length_push
+    (past_blank c.loop-before.invariant c.in-Some.line.now (left at.In-Some) part.1 (sym c.is_blank.ensures ∙ c.if-is_blank.true))
 
-pub slice_bounds-read_row-start : goal.slice_bounds-read_row-start
-slice_bounds-read_row-start c = omega (arith, line-within c, c.line_end-end.ensures)
+pub returns-in_err-row : goal.returns-in_err-row
+returns-in_err-row c =
+    let at = goal.at.returns-in_err-row c in
+    let part = next at.In-Some (numbered at.After-next) in
+    let p = err_from_is_err_and c.from_residual.result c.from_residual.ensures.1 in
+    let none : c.read_row.result ≡ None = grind arith in
+    let bad : c.in_err-row.field-0.0 ≡ record { line = c.in-Some.before + 1 } = grind arith in
+    rw (p.1, p.2, bad, part.0)
+    (at_bad c.loop-before.invariant c.in-Some.line.now (left at.In-Some) part.1 (sym c.is_blank.ensures ∙ c.if-is_blank.false)
+    (sym c.read_row.ensures ∙ none))
 
-pub slice_bounds-read_row-end : goal.slice_bounds-read_row-end
-slice_bounds-read_row-end c = omega (arith, line-within c, c.line_end-end.ensures)
+pub returns-then-rows-places : goal.returns-then-rows-places
+returns-then-rows-places c =
+    let at = goal.at.returns-then-rows-places c in
+    let part = next at.In-Some (numbered at.After-next) in
+    let some : c.read_row.result ≡ Some c.in_ok-row.row = grind arith in
+    rw part.0
+    (at_many c.loop-before.invariant c.in-Some.line.now (left at.In-Some) part.1 c.in_ok-row.row
+    (sym c.is_blank.ensures ∙ c.if-is_blank.false) (sym c.read_row.ensures ∙ some) c.if-rows-places.true)
+
+pub loop-before-preserved : goal.loop-before-preserved
+loop-before-preserved c =
+    let at = goal.at.loop-before-preserved c in
+    let part = next at.In-Some (numbered at.After-next) in
+    let some : c.read_row.result ≡ Some c.in_ok-row.row = grind arith in
+    rw (length_push, c.put_row.ensures)
+    (past_row c.loop-before.invariant c.in-Some.line.now (left at.In-Some) part.1 c.in_ok-row.row
+    (sym c.is_blank.ensures ∙ c.if-is_blank.false) (sym c.read_row.ensures ∙ some)
+    (omega (arith, c.loop-before.invariant.within)) (omega arith))
+
+pub returns : goal.returns
+returns c =
+    let r = (goal.at.returns c).After-next in
+    let end = YieldsList-end (numbered r) c.loop-before.yielded _ c.loop-before.yielded_by _ _ c.in-None.is c.next.ensures.steps in
+    reads_all c.loop-before.invariant (parts_end (parts c.args.text.now) (length c.loop-before.yielded) end.1) (omega arith)

@@ -1,20 +1,10 @@
-use native.Mathlib.Omega.{arith}
-use Rattle.text.proofs.Lines.{blanks_go_on, blanks_end, blanks-past}
+use Rattle.std.proofs.Common.{◌≡◌, ◌∙◌, ap, arith, drop, length-drop}
+use Rattle.text.specs.Lines.{blanks}
+use Rattle.text.proofs.Lines.{blanks-short}
 use Rattle.text.proofs.next_block.Goals as goal
 
-pub returns-then-text-i-ne-LINE_FEED : goal.returns-then-text-i-ne-LINE_FEED
-returns-then-text-i-ne-LINE_FEED c =
-    let here = c.before.before.before in
-    let t = here.args.text.now in
-    omega (arith, blanks_end t here.loop-i.i c.loop-i-test.true c.if-text-i-ne-LINE_FEED.true)
-
-pub loop-i-preserved : goal.loop-i-preserved
-loop-i-preserved c =
-    let here = c.before.before.before in
-    let t = here.args.text.now in
-    omega (arith, blanks_go_on t here.loop-i.i c.loop-i-test.true c.if-text-i-ne-LINE_FEED.false)
-
-pub returns : goal.returns
-returns c =
-    let t = c.args.text.now in
-    omega (arith, blanks-past t c.loop-i.i c.loop-i-test.false)
+pub overflow_add-result : goal.overflow_add-result
+overflow_add-result c =
+    let rest = drop c.args.from c.args.text.now in
+    let e : c.count_blanks.result ≡ blanks rest = c.count_blanks.ensures ∙ ap blanks c.rest_of.ensures in
+    omega (arith, blanks-short rest, length-drop c.args.from c.args.text.now)

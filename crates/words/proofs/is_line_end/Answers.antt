@@ -1,7 +1,7 @@
 -- By the byte at the place, and past the end the line is empty.
 use mathlib.Core.Path.{sym}
 use Rattle.text.proofs.Lines.{line-past}
-use Rattle.words.proofs.Line.{line-empty}
+use Rattle.words.proofs.FirstLine.{line-empty}
 use Rattle.words.proofs.is_line_end.Goals as goal
 
 pub returns-then-at-text : goal.returns-then-at-text

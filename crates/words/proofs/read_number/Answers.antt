@@ -4,18 +4,17 @@ use mathlib.Core.Bool.{true}
 use mathlib.Core.List.{List}
 use Prim.Native.Nat.{ℕ, ◌+◌, ◌≤◌}
 use native.Mathlib.Omega.{arith}
-use borrow.Author.Tests.{eq-eqb, ne_eqb, leb-true}
+use borrow.Author.Tests.{eq-eqb, ne_eqb, le-leb, lt-leb}
 use lib.Dec.{eqb, leb}
 use lib.ListN.{get_or, drop, length-drop}
-use Rattle.aries.specs.Test.{within}
 use Rattle.aries.specs.Text.{point}
 use Rattle.aries.specs.Words.{digits}
-use Rattle.signed.proofs.Tests.{and_right}
-use Rattle.words.specs.Reading.{Held, meant, number_of, number}
+use Rattle.words.specs.Digits.{Held, meant}
+use Rattle.words.specs.Reading.{number_of, number}
 use Rattle.words.proofs.Bytes.{test_inside}
 use Rattle.words.proofs.Numerals.{Bounded, held_bounded, below_power}
 use Rattle.words.proofs.Word.{number_at}
-use Rattle.words.proofs.read_number.Goals.{After-read_digits-decimals, After-read_digits-whole, Else-byte_at-ne46}
+use Rattle.words.proofs.read_number.Goals.{After-read_digits-decimals, After-read_digits-whole, Else-byte_at-ne46, Else-whole-eq0}
 use Rattle.words.proofs.read_number.Goals as goal
 
 -- ---- once the first digits are read
@@ -40,6 +39,11 @@ module _ (c : After-read_digits-whole) where
   parts : number (drop from text) ≡ number_of (meant whole) (get_or text past 0) (digits 2 0 0 (drop (past + 1) text))
   parts = number_at text from (meant whole) (ap meant c.read_digits-whole.ensures)
 
+-- ---- and there are some
+
+some-digits : (c : Else-whole-eq0) → leb 1 c.read_digits-whole.result.count ≡ true
+some-digits c = le-leb 1 c.read_digits-whole.result.count (omega (arith, c.if-whole-eq0.false))
+
 -- ---- where a point follows them
 
 is-point :
@@ -57,16 +61,18 @@ module _ (c : After-read_digits-decimals) where
   abbrev rest : List ℕ
   rest = drop (c.args.from + count + 1) c.args.text.now
 
-  short : within 1 4 count ≡ true
-  short = c.if-not-whole.false
-
   four : count ≤ 4
-  four = leb-true count 4 (and_right (leb 1 count) (leb count 4) short)
+  four = c.if-not-few.false
 
   two : Bounded 2 0 rest (meant c.read_digits-decimals.result)
   two = held_bounded 2 rest c.read_digits-decimals.result c.read_digits-decimals.ensures
 
 -- ---- the goals, in the order of the code
+
+pub returns-then-whole-eq0 : goal.returns-then-whole-eq0
+returns-then-whole-eq0 c =
+    let d = (goal.at.returns-then-whole-eq0 c).After-read_digits-whole in
+    rw (parts d) (simp (lt-leb 1 (whole d).count (omega (arith, c.if-whole-eq0.true))))
 
 pub overflow_add-end : goal.overflow_add-end
 overflow_add-end c =
@@ -75,14 +81,16 @@ overflow_add-end c =
 
 pub returns-then-byte_at-ne46 : goal.returns-then-byte_at-ne46
 returns-then-byte_at-ne46 c =
-    let d = (goal.at.returns-then-byte_at-ne46 c).After-read_digits-whole in
+    let g = goal.at.returns-then-byte_at-ne46 c in
+    let d = g.After-read_digits-whole in
     let other : get_or (text d) (past d) 0 ≡ point → ⊥ = λ p. c.if-byte_at-ne46.true (c.byte_at.ensures ∙ p) in
-    rw (parts d) (simp (ne_eqb (get_or (text d) (past d) 0) point other))
+    rw (parts d) (simp (some-digits g.Else-whole-eq0, ne_eqb (get_or (text d) (past d) 0) point other))
 
-pub returns-then-not-whole : goal.returns-then-not-whole
-returns-then-not-whole c =
-    let g = goal.at.returns-then-not-whole c in
-    rw (parts g.After-read_digits-whole) (simp (c.no_number.ensures, is-point g.Else-byte_at-ne46, c.if-not-whole.true))
+pub returns-then-not-few : goal.returns-then-not-few
+returns-then-not-few c =
+    let g = goal.at.returns-then-not-few c in
+    let d = g.After-read_digits-whole in
+    rw (parts d) (simp (some-digits g.Else-whole-eq0, is-point g.Else-byte_at-ne46, lt-leb (whole d).count 4 c.if-not-few.true))
 
 pub overflow_add-end-2 : goal.overflow_add-end-2
 overflow_add-end-2 c =
@@ -111,4 +119,10 @@ returns c =
     let g = goal.at.returns c in
     let r = g.After-read_digits-decimals in
     rw (parts g.After-read_digits-whole)
-    (simp (c.hundredths_of-value.ensures, is-point g.Else-byte_at-ne46, short r, r.read_digits-decimals.ensures))
+    (simp (
+      c.hundredths_of-value.ensures,
+      some-digits g.Else-whole-eq0,
+      is-point g.Else-byte_at-ne46,
+      le-leb (count r) 4 (four r),
+      r.read_digits-decimals.ensures,
+    ))

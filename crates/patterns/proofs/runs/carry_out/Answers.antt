@@ -1,55 +1,36 @@
 -- Where the numbers and the reach pass, the hits are those of the series, from the start that the state names.
+use Rattle.std.specs.Prelude.{Err}
 use mathlib.Core.Path.{◌≡◌, sym, ◌∙◌}
-use mathlib.Core.Bool.{true}
-use Prim.Native.Nat.{ℕ}
-use Rattle.aries.specs.declared.block.Pattern.{Pattern}
-use Rattle.aries.specs.declared.state.Frame.{Frame}
-use Rattle.aries.specs.declared.state.Progress.{Progress}
-use Rattle.aries.specs.Judging.{limits}
-use Rattle.aries.specs.Moves.{dropping, with_state}
-use Rattle.aries.specs.Patterns.{reach_is_near, shear_is_fit, start_of, starting, pattern}
-use Rattle.aries.proofs.Carried.{carried-refused}
-use Rattle.patterns.specs.Series.{series}
-use Rattle.patterns.proofs.runs.carry_out.Goals.{Else-not-reach_is_near, Else-not-shear_is_fit}
+use borrow.Author.Rules.{rules}
+use Rattle.press.proofs.InLine.{in_line-mapped}
+use Rattle.patterns.proofs.Carrying.{pattern_unfit, pattern_far, pattern_ran}
 use Rattle.patterns.proofs.runs.carry_out.Goals as goal
 
--- the numbers were judged,
-is-fit : (c : Else-not-shear_is_fit) → shear_is_fit c.args.pattern ≡ true
-is-fit c = sym c.shear_is_fit.ensures ∙ c.if-not-shear_is_fit.false
-
--- and the reach
-in_reach : (c : Else-not-reach_is_near) → reach_is_near c.args.pattern ≡ true
-in_reach c = sym c.reach_is_near.ensures ∙ c.if-not-reach_is_near.false
-
--- a pattern that passes both is its series
-is-series : (f : Frame) (line : ℕ) (p : Pattern) (g : Progress) → shear_is_fit p ≡ true → reach_is_near p ≡ true
-    → pattern (limits f.job) f line p g ≡ series f p (start_of g.state) line (starting g)
-unfolding pattern
-is-series f line p g h e = simp (h, e)
-
 pub returns-then-not-shear_is_fit : goal.returns-then-not-shear_is_fit
-unfolding pattern
 returns-then-not-shear_is_fit c =
     let a = c.args in
-    carried-refused a.frame (λ j. pattern j a.frame a.line a.pattern) {g = a.progress} c.refused.ensures
-    (simp (sym c.shear_is_fit.ensures ∙ c.if-not-shear_is_fit.true))
+    rw c.at.ensures (pattern_unfit a.frame a.line a.pattern a.progress c.if-not-shear_is_fit.ensures)
 
 pub returns-then-not-reach_is_near : goal.returns-then-not-reach_is_near
-unfolding pattern
 returns-then-not-reach_is_near c =
     let a = c.args in
-    carried-refused a.frame (λ j. pattern j a.frame a.line a.pattern) {g = a.progress} c.refused-then-not-reach_is_near.ensures
-    (simp (is-fit (goal.at.returns-then-not-reach_is_near c).Else-not-shear_is_fit, sym c.reach_is_near.ensures ∙ c.if-not-reach_is_near.true))
+    rw c.at-then-not-reach_is_near.ensures (pattern_far a.frame a.line a.pattern a.progress c.if-not-shear_is_fit.ensures c.if-not-reach_is_near.ensures)
 
-pub punch_series-made-requires : goal.punch_series-made-requires
-punch_series-made-requires c =
-    let e = (goal.at.punch_series-made-requires c).Else-not-reach_is_near in
-    let f = (goal.at.punch_series-made-requires c).Else-not-shear_is_fit in
-    record { pattern_value = in_reach e; pattern_value_2 = is-fit f; steady = f.requires }
+pub returns-in_err-reached : goal.returns-in_err-reached
+returns-in_err-reached c =
+    let a = c.args in
+    let made = c.punch_pattern-made in
+    let told = in_line-mapped a.line made.result c.map_err.result c.map_err.ensures.cases (λ e x q. search rules) in
+    let e : c.from_residual.result ≡ Err c.in_err-reached.field-0.0 = search rules in
+    rw e
+    (rw (sym told ∙ c.in_err-reached.was) at
+    (pattern_ran a.frame c.requires a.line a.pattern a.progress made.result c.if-not-shear_is_fit.ensures c.if-not-reach_is_near.ensures (rw c.start.ensures at made.ensures)))
 
 pub returns : goal.returns
 returns c =
-    let e = (goal.at.returns c).Else-not-reach_is_near in
-    let a = e.args in
-    rw (is-series a.frame a.line a.pattern a.progress (is-fit (goal.at.returns c).Else-not-shear_is_fit) (in_reach e), c.status_at.ensures, c.moved_to.ensures, c.dropping-dropped.ensures)
-    (rw c.start-start.ensures at (c.punch_series-made.ensures a.line (with_state a.progress (dropping a.progress.state))))
+    let a = c.args in
+    let made = c.punch_pattern-made in
+    let told = in_line-mapped a.line made.result c.map_err.result c.map_err.ensures.cases (λ e x q. search rules) in
+    rw c.standing_at.ensures
+    (rw (sym told ∙ c.in_ok-reached.was) at
+    (pattern_ran a.frame c.requires a.line a.pattern a.progress made.result c.if-not-shear_is_fit.ensures c.if-not-reach_is_near.ensures (rw c.start.ensures at made.ensures)))

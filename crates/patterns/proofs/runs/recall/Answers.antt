@@ -1,29 +1,25 @@
 -- What the memory holds says which way the definition goes.
+use Rattle.std.specs.Prelude.{Err}
 use mathlib.Core.Path.{◌≡◌, sym, ap, ◌∙◌}
-use Prim.Native.Nat.{ℕ, ◌-◌}
-use lib.ListN.{get_or}
-use Rattle.aries.specs.declared.state.Frame.{Frame}
-use Rattle.aries.specs.declared.state.Progress.{Progress}
-use Rattle.aries.specs.declared.state.Stored.{Stored}
-use Rattle.aries.specs.Judging.{Judging, limits}
-use Rattle.aries.specs.Patterns.{empty_memory, recalled, recall}
+use borrow.Author.Rules.{rules}
+use Rattle.aries.specs.declared.refusal.Refused.{Refused}
+use Rattle.aries.specs.Judging.{limits}
+use Rattle.aries.specs.Patterns.{recall}
 use Rattle.aries.proofs.Carried.{carried-refused}
+use Rattle.aries.proofs.Outcomes.{err_as}
+use Rattle.patterns.proofs.Carrying.{recall_as}
 use Rattle.patterns.proofs.runs.recall.Goals as goal
 
--- a recall goes by what the memory holds
-recalls : (j : Judging) (f : Frame) (line n : ℕ) (g : Progress) (s : Stored) → (get_or g.state.memories (n - 1) empty_memory).stored ≡ s
-    → recall j f line n g ≡ recalled j f line s g
-unfolding recall
-recalls j f line n g s e = ap (λ (t : Stored). recalled j f line t g) e
-
-pub returns-in-Empty : goal.returns-in-Empty
-returns-in-Empty c =
+pub returns-in_err-pattern : goal.returns-in_err-pattern
+returns-in_err-pattern c =
     let a = c.args in
-    carried-refused a.frame (λ j. recall j a.frame a.line a.n) {g = a.progress} c.refused.ensures
-    (recalls (limits a.frame.job) a.frame a.line a.n a.progress _ (sym c.memory-stored.ensures ∙ c.in-Empty.is))
+    let none = c.in_err-pattern.ensures.ok_part in
+    let e : c.from_residual.result ≡ Err c.in_err-pattern.field-0.0 = search rules in
+    let told = rw (none, c.at.ensures) at c.in_err-pattern.ensures.value in
+    carried-refused a.frame (λ j. recall j a.frame a.line a.n) {g = a.progress} (e ∙ ap (λ (r : Refused). Err r) (err_as _ _ told))
+    (recall_as (limits a.frame.job) a.frame a.line a.n a.progress (sym none ∙ c.memory-stored.ensures))
 
-pub returns-in-Kept : goal.returns-in-Kept
-returns-in-Kept c =
+pub returns : goal.returns
+returns c =
     let a = c.args in
-    rw (recalls (limits a.frame.job) a.frame a.line a.n a.progress _ (sym c.memory-stored.ensures ∙ c.in-Kept.is))
-    c.carry_out.ensures
+    rw (recall_as (limits a.frame.job) a.frame a.line a.n a.progress (sym c.in_ok-pattern.ensures.ok_part ∙ c.memory-stored.ensures)) c.carry_out.ensures

@@ -1,179 +1,74 @@
-use mathlib.Core.Path.{refl, ◌∙◌}
-use mathlib.Core.List.{List}
-use Prim.Native.Nat.{ℕ, ◌+◌}
-use native.Mathlib.Omega.{arith}
-use lib.ListN.{drop}
+-- By what comes next.
+use Rattle.std.specs.Prelude.{Ok, Err}
+use mathlib.Core.Path.{◌≡◌, refl}
+use borrow.Author.Rules.{rules}
 use Rattle.aries.specs.declared.block.Block.TheVariants as Block
 use Rattle.aries.specs.declared.block.Outside.TheVariants as Outside
-use Rattle.aries.specs.declared.macros.Macros.{Macros}
-use Rattle.aries.specs.Bodies.{with_stored, open_body}
-use Rattle.aries.specs.Judging.{limits}
-use Rattle.aries.specs.Program.{with_store, carry_out, carry_outside}
-use Rattle.aries.specs.Runs.{Lent, lent_both, entries_of_program, Ran}
-use Rattle.aries.specs.Text.{lines}
-use Rattle.aries.proofs.Runs.{ran-map}
-use Rattle.storing.specs.declared.Opened.{Opened}
-use Rattle.storing.specs.Opening.{Opens}
-use Rattle.turns.specs.declared.turn.Turn.{Turn}
-use Rattle.turns.specs.Turns.{at, carried, block_of}
-use Rattle.program.proofs.Underway.{underway_start, underway_end, comes-at, near-at, turn-refused, turn-line, block_refused, block-passed}
+use Rattle.aries.specs.Runs.{lent_both}
+use Rattle.turns.specs.Turns.{block_of}
+use Rattle.program.proofs.Underway.{ran_called, ran_opened, underway_start, underway_end, turn-refused, turn-line, block-refused, block-passed}
 use Rattle.program.proofs.lines.run_text.Goals as goal
 
--- what a U line leaves
-opened :
-    (t : List ℕ) (r : Turn) (m : Macros) (n end place : ℕ) {o : Opened} {before after : Lent}
-    → Opens o r.setup.job before after (with_stored m r.progress) (λ j. open_body j t n (end + 1) place (lines (drop (end + 1) t)) r.setup)
-    → Ran entries_of_program r.setup.job o.status (with_store (at r m) (with_stored o.macros o.progress)) before after r.progress.entries
-    (carried (limits r.setup.job) t end place (Block.Outside (Outside.Open n)) (at r m))
-unfolding carry_out carry_outside
-opened t r m n end place h =
-    ran-map (with_store (at r m)) (λ x. refl) (open_body (limits r.setup.job) t n (end + 1) place (lines (drop (end + 1) t)) r.setup (with_stored m r.progress)) h
-
-pub loop-at-init : goal.loop-at-init
-loop-at-init c =
+pub loop-from-init : goal.loop-from-init
+loop-from-init c =
     let a = c.args in
-    rw (c.fresh-setup.ensures, c.none-macros.ensures, c.fresh-progress.ensures) (underway_start a.job (lent_both a.list.now a.tally.now) a.text.now)
+    rw c.fresh-program.ensures (underway_start a.job (lent_both a.list.now a.tally.now) a.text.now)
 
-pub run_turn-turn-requires : goal.run_turn-turn-requires
-run_turn-turn-requires c =
-    let u = c.loop-at.invariant in
-    record { in_text = record { short = c.requires; inside = c.loop-at-test.true; numbered = u.numbered }; near = u.near }
-
--- ---- A refusal
-
-pub shape_of-list-in-Refused : goal.shape_of-list-in-Refused
-shape_of-list-in-Refused c = c.run_turn-turn.auto.list ∙ c.loop-at.invariant.kept
-
-pub returns-in-Refused : goal.returns-in-Refused
-returns-in-Refused c =
+pub returns-in_err-turn : goal.returns-in_err-turn
+returns-in_err-turn c =
     let a = c.args in
-    let h = c.loop-at in
-    let t = c.run_turn-turn in
-    rw c.refused.ensures
-    (turn-refused a.job (lent_both a.list.now a.tally.now) a.text.now h.macros h.invariant t.auto.list t.ensures c.in-Refused.is c.fresh.result)
+    let e : c.from_residual.result ≡ Err c.in_err-turn.field-0.0 = search rules in
+    rw e (turn-refused a.job (lent_both a.list.now a.tally.now) a.text.now c.loop-from.invariant c.in_err-turn.ensures)
 
 -- ---- Lines
 
-pub loop-at-smaller-in-Line : goal.loop-at-smaller-in-Line
-loop-at-smaller-in-Line c =
+pub loop-from-preserved-in-Line : goal.loop-from-preserved-in-Line
+loop-from-preserved-in-Line c =
     let a = c.args in
-    let h = c.loop-at in
-    let t = c.run_turn-turn in
-    let b = comes-at a.job (lent_both a.list.now a.tally.now) a.text.now h.macros h.invariant t.auto.list t.ensures c.in-Line.is in
-    omega (arith, b.further, b.inside)
-
-pub loop-at-preserved-in-Line : goal.loop-at-preserved-in-Line
-loop-at-preserved-in-Line c =
-    let a = c.args in
-    let h = c.loop-at in
-    let t = c.run_turn-turn in
-    turn-line a.job (lent_both a.list.now a.tally.now) a.text.now h.macros h.invariant t.auto.list t.ensures c.in-Line.is
+    turn-line a.job (lent_both a.list.now a.tally.now) a.text.now c.loop-from.invariant c.run_turn.auto.list c.in_ok-turn.ensures c.in-Line.is
 
 -- ---- A block that runs stored bodies
 
-pub run_called-ran-requires : goal.run_called-ran-requires
-run_called-ran-requires c =
+pub returns-in_err-program-in-Run : goal.returns-in_err-program-in-Run
+returns-in_err-program-in-Run c =
     let a = c.args in
-    let h = c.loop-at in
-    let t = c.run_turn-turn in
-    let n = near-at a.job (lent_both a.list.now a.tally.now) a.text.now h.macros h.invariant t.auto.list t.ensures c.in-Run.is in
-    record { near = n.0; called_near = n.1 }
+    let b = c.in-Run in
+    let refusal = c.in_err-program-in-Run.field-0.0 in
+    let e : c.from_residual-in_err-program-in-Run.result ≡ Err refusal = search rules in
+    rw e
+    (block-refused a.job (lent_both a.list.now a.tally.now) a.text.now c.loop-from.invariant c.run_turn.auto.list c.in_ok-turn.ensures (block_of b.called) b.is refl
+    (ran_called a.text.now c.in_ok-turn.turn c.loop-from.program.macros b.end b.called (Err refusal) c.in_err-program-in-Run.ensures.runs))
 
-pub shape_of-list-in-Refused-status : goal.shape_of-list-in-Refused-status
-shape_of-list-in-Refused-status c = c.run_called-ran.auto.list ∙ c.run_turn-turn.auto.list ∙ c.loop-at.invariant.kept
-
-pub returns-in-Refused-status : goal.returns-in-Refused-status
-returns-in-Refused-status c =
+pub loop-from-preserved-in-Run : goal.loop-from-preserved-in-Run
+loop-from-preserved-in-Run c =
     let a = c.args in
-    let h = c.loop-at in
-    let t = c.run_turn-turn in
-    let n = c.in-Run in
-    let b = comes-at a.job (lent_both a.list.now a.tally.now) a.text.now h.macros h.invariant t.auto.list t.ensures n.is in
-    rw c.refused-in-Refused-status.ensures
-    (block_refused a.job (lent_both a.list.now a.tally.now) a.text.now h.macros h.invariant t.auto.list t.ensures
-    (block_of n.called) n.end n.place n.is b refl (c.run_called-ran.ensures.runs t.result.stage n.end) c.in-Refused-status.is c.fresh-in-Refused-status.result)
-
-pub loop-at-smaller-in-Run : goal.loop-at-smaller-in-Run
-loop-at-smaller-in-Run c =
-    let a = c.args in
-    let h = c.loop-at in
-    let t = c.run_turn-turn in
-    let b = comes-at a.job (lent_both a.list.now a.tally.now) a.text.now h.macros h.invariant t.auto.list t.ensures c.in-Run.is in
-    omega (arith, b.further, b.inside)
-
-pub loop-at-preserved-in-Run : goal.loop-at-preserved-in-Run
-loop-at-preserved-in-Run c =
-    let a = c.args in
-    let h = c.loop-at in
-    let t = c.run_turn-turn in
-    let n = c.in-Run in
-    let b = comes-at a.job (lent_both a.list.now a.tally.now) a.text.now h.macros h.invariant t.auto.list t.ensures n.is in
-    let near = near-at a.job (lent_both a.list.now a.tally.now) a.text.now h.macros h.invariant t.auto.list t.ensures n.is in
-    let passed = c.in_default.is in
-    block-passed a.job (lent_both a.list.now a.tally.now) a.text.now h.macros h.invariant t.auto.list t.ensures
-    (block_of n.called) n.end n.place n.is b refl (c.run_called-ran.ensures.runs t.result.stage n.end) passed c.run_called-ran.auto.list refl
-    (near.0.0, c.run_called-ran.ensures.given_near passed)
+    let b = c.in-Run in
+    let left = c.in_ok-program-in-Run in
+    block-passed a.job (lent_both a.list.now a.tally.now) a.text.now c.loop-from.invariant c.run_turn.auto.list c.in_ok-turn.ensures (block_of b.called) b.is refl
+    (ran_called a.text.now c.in_ok-turn.turn c.loop-from.program.macros b.end b.called (Ok left.field-0) left.ensures.runs) c.run_called.auto.list refl left.ensures.given_near
 
 -- ---- A U line
 
-pub overflow_add-from : goal.overflow_add-from
-overflow_add-from c =
+pub returns-in_err-opened-in-Open : goal.returns-in_err-opened-in-Open
+returns-in_err-opened-in-Open c =
     let a = c.args in
-    let h = c.loop-at in
-    let t = c.run_turn-turn in
-    let b = comes-at a.job (lent_both a.list.now a.tally.now) a.text.now h.macros h.invariant t.auto.list t.ensures c.in-Open.is in
-    omega (arith, b.inside, c.requires)
+    let b = c.in-Open in
+    let refusal = c.in_err-opened-in-Open.field-0.0 in
+    let e : c.from_residual-in_err-opened-in-Open.result ≡ Err refusal = search rules in
+    rw e
+    (block-refused a.job (lent_both a.list.now a.tally.now) a.text.now c.loop-from.invariant c.run_turn.auto.list c.in_ok-turn.ensures (Block.Outside (Outside.Open b.number)) b.is refl
+    (ran_opened a.text.now c.in_ok-turn.turn c.loop-from.program.macros b.number b.end (Err refusal) c.in_err-opened-in-Open.ensures.opens))
 
-pub open_body-opened-requires : goal.open_body-opened-requires
-open_body-opened-requires c =
+pub loop-from-preserved : goal.loop-from-preserved
+loop-from-preserved c =
     let a = c.args in
-    let h = c.loop-at in
-    let t = c.run_turn-turn in
-    let b = comes-at a.job (lent_both a.list.now a.tally.now) a.text.now h.macros h.invariant t.auto.list t.ensures c.in-Open.is in
-    let near = near-at a.job (lent_both a.list.now a.tally.now) a.text.now h.macros h.invariant t.auto.list t.ensures c.in-Open.is in
-    record { text_len_bound = (c.requires, omega (arith, b.inside, b.numbered, c.requires)); origin_value = near }
-
-pub shape_of-list-in-Refused-status-2 : goal.shape_of-list-in-Refused-status-2
-shape_of-list-in-Refused-status-2 c = c.open_body-opened.auto.list ∙ c.run_turn-turn.auto.list ∙ c.loop-at.invariant.kept
-
-pub returns-in-Refused-status-2 : goal.returns-in-Refused-status-2
-returns-in-Refused-status-2 c =
-    let a = c.args in
-    let h = c.loop-at in
-    let t = c.run_turn-turn in
-    let n = c.in-Open in
-    let b = comes-at a.job (lent_both a.list.now a.tally.now) a.text.now h.macros h.invariant t.auto.list t.ensures n.is in
-    rw c.refused-in-Refused-status-2.ensures
-    (block_refused a.job (lent_both a.list.now a.tally.now) a.text.now h.macros h.invariant t.auto.list t.ensures
-    (Block.Outside (Outside.Open n.n)) n.end n.place n.is b refl (opened a.text.now t.result h.macros n.n n.end n.place c.open_body-opened.ensures.opens) c.in-Refused-status-2.is c.fresh-in-Refused-status-2.result)
-
-pub loop-at-smaller : goal.loop-at-smaller
-loop-at-smaller c =
-    let a = c.args in
-    let h = c.loop-at in
-    let t = c.run_turn-turn in
-    let b = comes-at a.job (lent_both a.list.now a.tally.now) a.text.now h.macros h.invariant t.auto.list t.ensures c.in-Open.is in
-    omega (arith, b.further, b.inside)
-
-pub loop-at-preserved : goal.loop-at-preserved
-loop-at-preserved c =
-    let a = c.args in
-    let h = c.loop-at in
-    let t = c.run_turn-turn in
-    let n = c.in-Open in
-    let b = comes-at a.job (lent_both a.list.now a.tally.now) a.text.now h.macros h.invariant t.auto.list t.ensures n.is in
-    let near = near-at a.job (lent_both a.list.now a.tally.now) a.text.now h.macros h.invariant t.auto.list t.ensures n.is in
-    let passed = c.in_default-status.is in
-    block-passed a.job (lent_both a.list.now a.tally.now) a.text.now h.macros h.invariant t.auto.list t.ensures
-    (Block.Outside (Outside.Open n.n)) n.end n.place n.is b refl (opened a.text.now t.result h.macros n.n n.end n.place c.open_body-opened.ensures.opens) passed c.open_body-opened.auto.list refl
-    (near.0, c.open_body-opened.ensures.given_near passed)
+    let b = c.in-Open in
+    let left = c.in_ok-opened-in-Open in
+    block-passed a.job (lent_both a.list.now a.tally.now) a.text.now c.loop-from.invariant c.run_turn.auto.list c.in_ok-turn.ensures (Block.Outside (Outside.Open b.number)) b.is refl
+    (ran_opened a.text.now c.in_ok-turn.turn c.loop-from.program.macros b.number b.end (Ok left.opened) left.ensures.opens) c.open_body.auto.list refl left.ensures.given_near
 
 -- ---- The end of the text
 
-pub shape_of-list : goal.shape_of-list
-shape_of-list c = c.loop-at.invariant.kept
-
 pub returns : goal.returns
 returns c =
-    let a = c.args in
-    rw c.passed.ensures (underway_end a.job (lent_both a.list.now a.tally.now) a.text.now c.loop-at.invariant c.loop-at-test.false)
+    let a = c.args in underway_end a.job (lent_both a.list.now a.tally.now) a.text.now c.loop-from.invariant c.loop-from-test.false

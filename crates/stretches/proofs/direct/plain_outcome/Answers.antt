@@ -1,13 +1,11 @@
--- Each arm is that of the definition, the last one for the block that is left.
+-- Each arm is that of the definition.
+use Rattle.std.specs.Prelude.{Ok}
 use mathlib.Core.Path.{refl, ap, ◌∙◌}
-use borrow.Author.Rules.{rules}
 use Rattle.aries.specs.declared.block.Direct.TheVariants.{Lone, Nibble, Idle}
 use Rattle.aries.specs.declared.state.Progress.{Progress}
-use Rattle.aries.specs.declared.state.Status.TheVariants.{Passed}
 use Rattle.aries.specs.Macros.{carry_direct}
 use Rattle.aries.specs.Moves.{with_state}
 use Rattle.aries.proofs.Carried.{carried_no_entry}
-use Rattle.stretches.proofs.Plain.{idle_left}
 use Rattle.stretches.proofs.direct.plain_outcome.Goals as goal
 
 pub returns-in-Punch : goal.returns-in-Punch
@@ -32,7 +30,7 @@ returns-in-Lone c =
     let a = c.args in
     let e = c.with_state.ensures ∙ ap (with_state a.progress) c.dropping.ensures in
     rw c.in-Lone.is
-    (carried_no_entry a.frame (λ j. carry_direct j a.frame a.line Lone) {g = a.progress} (c.passed.ensures ∙ ap (λ (p : Progress). record { status = Passed; progress = p }) e) refl refl)
+    (carried_no_entry a.frame (λ j. carry_direct j a.frame a.line Lone) {g = a.progress} (ap (λ (p : Progress). Ok p) e) refl refl)
 
 pub returns-in-Nibble : goal.returns-in-Nibble
 unfolding carry_direct
@@ -40,10 +38,10 @@ returns-in-Nibble c =
     let a = c.args in
     let e = c.with_state-in-Nibble.ensures ∙ ap (with_state a.progress) c.in_mode.ensures in
     rw c.in-Nibble.is
-    (carried_no_entry a.frame (λ j. carry_direct j a.frame a.line (Nibble c.in-Nibble.on)) {g = a.progress} (c.passed-in-Nibble.ensures ∙ ap (λ (p : Progress). record { status = Passed; progress = p }) e) refl refl)
+    (carried_no_entry a.frame (λ j. carry_direct j a.frame a.line (Nibble c.in-Nibble.on)) {g = a.progress} (ap (λ (p : Progress). Ok p) e) refl refl)
 
-pub returns-in_default : goal.returns-in_default
+pub returns-in-Idle : goal.returns-in-Idle
 unfolding carry_direct
-returns-in_default c =
+returns-in-Idle c =
     let a = c.args in
-    rw (idle_left a.block c.requires.block_value (search rules)) (carried_no_entry a.frame (λ j. carry_direct j a.frame a.line Idle) c.passed-in_default.ensures refl refl)
+    rw c.in-Idle.is (carried_no_entry a.frame (λ j. carry_direct j a.frame a.line Idle) {g = a.progress} refl refl refl)
