@@ -7,7 +7,6 @@ use mathlib.Core.Bool.{Bool, true, false, not, cond, ◌||◌}
 use mathlib.Core.List.{List, [], ◌∷◌}
 use Prim.Native.Nat.{ℕ, zero, suc, ◌-◌}
 use native.Mathlib.Omega.{arith}
-use lib.Dec.{ltb}
 use lib.IntN.{ℤ, ◌+ℤ◌}
 use lib.ListN.{get_or}
 use Rattle.aries.specs.declared.refusal.Refusal.{Refusal}
@@ -36,7 +35,7 @@ use Rattle.aries.specs.Blocks.{decode}
 use Rattle.aries.specs.Entries.{Made, no_entry, map_after}
 use Rattle.aries.specs.Judging.{Judging, room, judged, near}
 use Rattle.aries.specs.Mirrors.{opened, mirrored, seen, reflected}
-use Rattle.aries.specs.Moves.{◌⊕◌, moved_to, waiting_for, in_mode, choosing, remembering, measuring, dropping, standing_at, giving, axis_target, target, with_state, enter, hit_of, punch, position, move, set_pattern_origin}
+use Rattle.aries.specs.Moves.{◌⊕◌, moved_to, waiting_for, in_mode, choosing, remembering, measuring, dropping, standing_at, giving, mirror_spans, axis_target, target, with_state, enter, hit_of, punch, position, move, set_pattern_origin}
 use Rattle.aries.specs.Patterns.{hit_offset, hit_count, reach_is_near, shear_is_fit, punches, start_at, start_of, ending, pattern, run_pattern, recalled, recall}
 use Rattle.aries.specs.Macros.{Body, Bodies, Calls, carry_direct, call_mirrored, carry_call, carry, is_counted, may_come, begun, begin, run_block, run_line, run_lines, call, run_body}
 use Rattle.aries.specs.CopyRuns.{bytes_of}
@@ -44,7 +43,7 @@ use Rattle.aries.proofs.Outcomes.{>>=-assoc}
 use Rattle.aries.proofs.Points.{+ℤ-swap, ⊕-swap}
 use Rattle.aries.proofs.Mirrors.{seen-mirrored, reflected_moves}
 use Rattle.aries.proofs.Counts.{Counts, another_block}
-use Rattle.aries.proofs.Follows.{moved_waiting, moved_state, moved_frame, Motion, Sees, progress, Looser, alike, Follows, refusals, Beside, follows_no_entry, follows_need, follows_then, follows_map, follows_counted, follows_entry}
+use Rattle.aries.proofs.Follows.{moved_waiting, moved_state, moved_frame, Motion, Sees, progress, Looser, alike, Follows, refusals, Beside, follows_no_entry, follows_given, follows_need, follows_then, follows_map, follows_counted, follows_entry}
 
 -- ---- Points named by a moved state are moved
 
@@ -106,22 +105,22 @@ module _ {E : Type 0} (j : Judging) (bounds : Bool) (v : Motion) (places : ℕ) 
     -- a hit that is seen at one point, and another that becomes the current point
     punch_at : Point → Point → Progress → Out (Made Progress)
     punch_at q p g = do
-      _ ← need (ltb 0 g.state.tool) NoTool line
+      tool ← given g.state.tool NoTool line
       _ ← need (judged j.bounds (near q)) TooFar line
       _ ← need (judged j.bounds (in_range (moved m f) q)) OutOfRange line
-      enter j line (hit_of g.state q) (with_state g (moved_to g.state p))
+      enter j line (hit_of tool g.state q) (with_state g (moved_to g.state p))
 
     punch_follows : (p : Point) → punch j (moved m f) line (p ⊕ v.by) beside punch free f line' p
     unfolding punch punch_at
     punch_follows p s n n' =
         subst (λ (q : Point). Follows E j v n n' (punch_at q (p ⊕ v.by) (progress (moved_state v.by s) n)) (punch free f line' p (progress s n')))
         (sym (sees p))
-        (follows_need NoTool line line' (alike {t = ltb 0 s.tool})
+        (follows_given s.tool NoTool line line' λ tool.
         (follows_need TooFar line line' (w.seen-near (seen f p))
         (follows_need OutOfRange line line' (w.coverage f m (seen f p))
-        (follows_entry ListFull line (hit_of s (seen f p)) (moved_to s p) n n'))))
+        (follows_entry ListFull line (hit_of tool s (seen f p)) (moved_to s p) n n'))))
 
-    position_follows : (a : Axes) (t : ℕ) → position j (moved m f) line a t beside position free f line' a t
+    position_follows : (a : Axes) (t : Option ℕ) → position j (moved m f) line a t beside position free f line' a t
     unfolding position
     position_follows a t s n n' =
         subst
@@ -130,13 +129,13 @@ module _ {E : Type 0} (j : Judging) (bounds : Bool) (v : Motion) (places : ℕ) 
         (punch_follows (target f s a) (dropping (choosing s t)) n n')
 
     -- a move whose end is seen at one point, and to another
-    move_to : ℕ → Point → Point → Progress → Out (Made Progress)
+    move_to : Option ℕ → Point → Point → Progress → Out (Made Progress)
     move_to t q p g = do
       _ ← need (judged j.bounds (near q)) TooFar line
       _ ← need (judged j.bounds (in_range (moved m f) q)) OutOfRange line
       no_entry (with_state g (moved_to (dropping (choosing g.state t)) p))
 
-    move_follows : (a : Axes) (t : ℕ) → move j (moved m f) line a t beside move free f line' a t
+    move_follows : (a : Axes) (t : Option ℕ) → move j (moved m f) line a t beside move free f line' a t
     unfolding move move_to
     move_follows a t s n n' =
         subst (λ (p : Point). Follows E j v n n' (move_to t (seen (moved m f) p) p (progress (moved_state v.by s) n)) (move free f line' a t (progress s n')))
@@ -192,7 +191,7 @@ module _ {E : Type 0} (j : Judging) (bounds : Bool) (v : Motion) (places : ℕ) 
         (follows_need TooFar line line' (w.reach (reach_is_near p))
         (ending_follows p (start_of s) (punches_follow p (start_of s) (hit_count p) 0 (moved_to (dropping s) (start_of s)) n n'))))
 
-    run_pattern_follows : (p : Pattern) (t a : ℕ) → run_pattern j (moved m f) line p t a beside run_pattern free f line' p t a
+    run_pattern_follows : (p : Pattern) (t a : Option ℕ) → run_pattern j (moved m f) line p t a beside run_pattern free f line' p t a
     unfolding run_pattern
     run_pattern_follows p t a s n n' = pattern_follows p (remembering (choosing s t) a p) n n'
 
@@ -228,7 +227,7 @@ module _ {E : Type 0} (j : Judging) (bounds : Bool) (v : Motion) (places : ℕ) 
     call_mirrored_follows : (line line' way part : ℕ) → call_mirrored c (moved m f) line way part beside call_mirrored c' f line' way part
     call_mirrored_follows line line' way part s n n' =
         follows_map (λ t. standing_at t (f.origin ⊕ v.by)) (λ t. standing_at t f.origin)
-        (calls-follow (mirrored way s.spans f) (opened way s.spans m) (sees_mirrored v places f m way s.spans sees) part line line'
+        (calls-follow (mirrored way (mirror_spans s) f) (opened way (mirror_spans s) m) (sees_mirrored v places f m way (mirror_spans s) sees) part line line'
         (standing_at s f.origin) n n')
         (λ t. refl)
 

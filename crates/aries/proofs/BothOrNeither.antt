@@ -6,7 +6,8 @@ use Prim.Native.Nat.{ℕ, ◌<◌}
 use native.Mathlib.Omega.{arith}
 use Rattle.aries.specs.declared.block.Layout.{Layout}
 use Rattle.aries.specs.declared.point.Point.{Point}
-use Rattle.aries.specs.Layouts.{copy_count, column_of, row_of, place_at, copy_place}
+use Rattle.aries.specs.Lanes.{column_of, row_of}
+use Rattle.aries.specs.Layouts.{copy_count, place_at, copy_place}
 use Rattle.aries.specs.CopyRuns.{Circumstances, run, Accepted, AllAlike, BothOrNeither}
 use Rattle.aries.proofs.Counts.{counts_of}
 use Rattle.aries.proofs.Parts.{same-part, parts-turned, part-stored, fit_alike, alike_turned}
@@ -20,11 +21,11 @@ same_place :
     → (k : ℕ) × (k < copy_count l) × (place from c l k ≡ place to d l i)
 unfolding copy_place
 same_place from to c d r l i h =
-    let x = copy_at from l (column_of to l i) (row_of to l i) (column_bound to l i h) (row_bound to l i h) in (
+    let x = copy_at from l (column_of to l.steps i) (row_of to l.steps i) (column_bound to l i h) (row_bound to l i h) in (
       x.number,
       x.bound,
       ap₂ (place_at c.setup.origin l c.corner) x.column x.row
-          ∙ ap₂ (λ (o : Point) (q : ℕ). place_at o l q (column_of to l i) (row_of to l i)) r.origin r.corner,
+          ∙ ap₂ (λ (o : Point) (q : ℕ). place_at o l q (column_of to l.steps i) (row_of to l.steps i)) r.origin r.corner,
     )
 
 -- what one order accepts, the other does

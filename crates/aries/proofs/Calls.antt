@@ -100,6 +100,6 @@ module _ (j : Judging) (f : Frame) (line : ℕ) (l : List ℕ) (g : Progress) wh
   unfolding begin
   begin-refused e refusal d = simp (e, d)
 
-  pub begin-done : may_come j l g ≡ true → (i : Instruction) → decode (reader_of f g.state) l ≡ Ok i → begin j f line l g ≡ Ok (begun_by l g i)
+  pub begin-ok : may_come j l g ≡ true → (i : Instruction) → decode (reader_of f g.state) l ≡ Ok i → begin j f line l g ≡ Ok (begun_by l g i)
   unfolding begin
-  begin-done e i d = simp (e, d)
+  begin-ok e i d = simp (e, d)

@@ -16,7 +16,7 @@ use Rattle.aries.specs.Judging.{Judging, near, limits}
 use Rattle.aries.specs.Layouts.{copy, copy_all}
 use Rattle.aries.specs.Setup.{ordinary_frame}
 use Rattle.aries.specs.CopyRuns.{Circumstances, called, Accepted, entries_of, moved_by, joined, SamePart}
-use Rattle.aries.proofs.Outcomes.{done_injective, need_accepted, Both, then_accepted, accepted_then}
+use Rattle.aries.proofs.Outcomes.{ok_injective, need_accepted, Both, then_accepted, accepted_then}
 use Rattle.aries.proofs.Counts.{Counts, counts_of, nothing, ◌⊞◌, times, times_suc, Up, up_unique, Fit, fit_nothing, fit_front, fit_back, fit_joined}
 use Rattle.aries.proofs.Follows.{Motion, translation, Followed, follows_accepted, follows_fitting}
 use Rattle.aries.proofs.BodyRuns.{unlimited}
@@ -111,7 +111,7 @@ module _ (c base : Circumstances) (same : SamePart c base) where
     counts_as_own : {j : Judging} {v : Motion} {n : Counts} {m : Made Progress} (o : Followed j v n n' m (own_from base n')) → o.by ≡ w.by
     counts_as_own o =
         up_unique o.together.up'
-        (subst (λ (m : Made Progress). Up n' (counts_of m.after) w.by) (done_injective _ _ (sym w.result_is ∙ o.other_is)) w.up)
+        (subst (λ (m : Made Progress). Up n' (counts_of m.after) w.by) (ok_injective _ _ (sym w.result_is ∙ o.other_is)) w.up)
 
     -- every copy passes by bounds, and what all of them count fits
     pub record AllPass (place : ℕ → Point) (k m : ℕ) (n : Counts) : Type 0 where

@@ -29,7 +29,7 @@ use Rattle.aries.specs.Program.{with_progress, in_place, carry_outside, carry_ou
 use Rattle.aries.specs.CopyRuns.{run, moved_sheet}
 use Rattle.aries.specs.CopyBlocks.{CopyLinesRun, Reached, start, next, Ordinary, ReachedOrdinary, OriginMoves}
 use Rattle.aries.proofs.Points.{⊕-swap}
-use Rattle.aries.proofs.Calls.{begin-done}
+use Rattle.aries.proofs.Calls.{begin-ok}
 use Rattle.aries.proofs.Kept.{run_line_outside_keeps}
 
 -- a line that decodes is not blank
@@ -42,7 +42,7 @@ unfolding run_block_outside carry_out carry_outside run
 copy-lines_run text after line [] ls p i k running may e b = absurd (not_blank (reader_of (ordinary_frame p.setup) p.progress.state) i e)
 copy-lines_run text after line (c ∷ l) ls p i k running may e b =
     ap (λ (t : Stage). elim (is_storing t) as (λ _. Out (Made Program)) [ true ↦ pass_over (c ∷ l) p | false ↦ run_block_outside j text after line (c ∷ l) ls p ]) running
-    ∙ ap (λ (x : Out Begun). ◌>>=◌ x goes_on) (begin-done j (ordinary_frame p.setup) line (c ∷ l) p.progress may i e)
+    ∙ ap (λ (x : Out Begun). ◌>>=◌ x goes_on) (begin-ok j (ordinary_frame p.setup) line (c ∷ l) p.progress may i e)
     ∙ ap₂ (λ (t : Stage) (d : Block). ◌>>=◌ (need (in_place t d) OutOfPlace line) (λ _. carry_out j text after line ls d (with_progress p began))) running b
   where
     j : Judging

@@ -20,7 +20,7 @@ use Rattle.aries.specs.declared.setup.Setup.{Setup}
 use Rattle.aries.specs.declared.setup.Stage.{Stage}
 use Rattle.aries.specs.declared.setup.Stage.TheVariants.{Running, Storing}
 use Rattle.aries.specs.Text.{bytes, lines}
-use Rattle.aries.specs.Reader.{reader_at}
+use Rattle.aries.specs.Reader.{reader_at, given_of}
 use Rattle.aries.specs.Blocks.{decode}
 use Rattle.aries.specs.Moves.{point_at, zero_point, moved_to, fresh_state}
 use Rattle.aries.specs.Macros.{no_macros, storing, part, bodies_of, is_counted}
@@ -82,7 +82,7 @@ instruction_by vertical = record { measure = None; block = Outside (Copy (copies
 comes_to :
     (text block : List ℕ) (vertical : Bool)
     → lines text ≡ bytes "G92X600.Y600." ∷ bytes "G98X0Y0I10.J10.P1K1" ∷ bytes "U60" ∷ bytes "X1.Y1.T2" ∷ bytes "V60" ∷ block ∷ bytes "G50" ∷ []
-    → decode (reader_at Hundredths fresh_state.given) block ≡ Ok (instruction_by vertical) → is_counted block ≡ true → ComesTo job text vertical (finds text vertical)
+    → decode (reader_at Hundredths (given_of fresh_state)) block ≡ Ok (instruction_by vertical) → is_counted block ≡ true → ComesTo job text vertical (finds text vertical)
 comes_to text block vertical e d k =
     record {
       at = 51;
@@ -115,7 +115,7 @@ same-bodies n = go (eqb n 60) refl
     go : (t : Bool) → eqb n 60 ≡ t → bytes_of (bodies_of (sheet_by "G75") stored n) ≡ bytes_of (bodies_of (sheet_by "G76") stored n)
     go true e = subst (λ (k : ℕ). bytes_of (bodies_of (sheet_by "G75") stored k) ≡ bytes_of (bodies_of (sheet_by "G76") stored k)) (sym (eqb-true n 60 e)) refl
     go false e =
-        let none-there = found_other no_macros 60 n (record { start = 38; end = 47; line = 4 }) (eqb-false n 60 e) (found_fresh n) in
+        let none-there = found_other no_macros 60 n (record { start = 38; end = 47; line = 4 }) (eqb-false n 60 e) ∙ found_fresh n in
         ap bytes_of (body_missing (sheet_by "G75") stored n none-there) ∙ sym (ap bytes_of (body_missing (sheet_by "G76") stored n none-there))
 
 pub pair_alike : PairAlike

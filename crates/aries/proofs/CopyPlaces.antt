@@ -13,8 +13,8 @@ use Rattle.aries.specs.declared.point.Point.{Point}
 use Rattle.aries.specs.declared.block.Layout.{Layout}
 use Rattle.aries.specs.declared.block.Copies.{Copies}
 use Rattle.aries.specs.Moves.{point_at, ◌⊕◌}
-use Rattle.aries.specs.Lanes.{lane, along}
-use Rattle.aries.specs.Layouts.{copy_count, column_of, row_of, from_right, from_top, facing, place_at, copy_place}
+use Rattle.aries.specs.Lanes.{lane, along, column_of, row_of}
+use Rattle.aries.specs.Layouts.{copy_count, from_right, from_top, facing, place_at, copy_place}
 use Rattle.aries.specs.CopyRuns.{Cell, back_and_forth, cell_of, coordinate, place_of}
 use Rattle.aries.proofs.Points.{⊕-swap}
 use Rattle.aries.proofs.Lanes.{lane_bound, along_bound, number_of, number_of_bound, lane-number_of, along-number_of}
@@ -43,17 +43,17 @@ lane_is last m = ap (λ (n : ℕ). m / n) (sym (add-one last))
 abbrev cell : ℕ → ℕ → Cell
 cell c r = record { c = c; r = r }
 
-cell_is : (vertical : Bool) (l : Layout) (m : ℕ) → cell (column_of vertical l m) (row_of vertical l m) ≡ cell_of vertical l m
+cell_is : (vertical : Bool) (l : Layout) (m : ℕ) → cell (column_of vertical l.steps m) (row_of vertical l.steps m) ≡ cell_of vertical l m
 cell_is true l m = ap₂ cell (lane_is l.steps.y m) (along_is l.steps.y m)
 cell_is false l m = ap₂ cell (along_is l.steps.x m) (lane_is l.steps.x m)
 
 -- ---- Columns and rows
 
-pub column_bound : (vertical : Bool) (l : Layout) (m : ℕ) → m < copy_count l → column_of vertical l m ≤ l.steps.x
+pub column_bound : (vertical : Bool) (l : Layout) (m : ℕ) → m < copy_count l → column_of vertical l.steps m ≤ l.steps.x
 column_bound true l m h = lane_bound l.steps.y l.steps.x m (omega arith)
 column_bound false l m h = along_bound l.steps.x m
 
-pub row_bound : (vertical : Bool) (l : Layout) (m : ℕ) → m < copy_count l → row_of vertical l m ≤ l.steps.y
+pub row_bound : (vertical : Bool) (l : Layout) (m : ℕ) → m < copy_count l → row_of vertical l.steps m ≤ l.steps.y
 row_bound true l m h = along_bound l.steps.y m
 row_bound false l m h = lane_bound l.steps.x l.steps.y m h
 
@@ -61,8 +61,8 @@ row_bound false l m h = lane_bound l.steps.x l.steps.y m h
 pub record CopyAt (vertical : Bool) (l : Layout) (c r : ℕ) : Type 0 where
   pub number : ℕ
   pub bound : number < copy_count l
-  pub column : column_of vertical l number ≡ c
-  pub row : row_of vertical l number ≡ r
+  pub column : column_of vertical l.steps number ≡ c
+  pub row : row_of vertical l.steps number ≡ r
 
 -- every cell is visited
 pub copy_at : (vertical : Bool) (l : Layout) (c r : ℕ) → c ≤ l.steps.x → r ≤ l.steps.y → CopyAt vertical l c r
@@ -112,7 +112,7 @@ pub copy_place_is :
     → copy_place origin l k m ≡ place_of origin l k.corner (cell_of k.vertical l m)
 unfolding copy_place
 copy_place_is origin l k m h =
-    place_at_is origin l k.corner (column_of k.vertical l m) (row_of k.vertical l m) (column_bound k.vertical l m h) (row_bound k.vertical l m h)
+    place_at_is origin l k.corner (column_of k.vertical l.steps m) (row_of k.vertical l.steps m) (column_bound k.vertical l m h) (row_bound k.vertical l m h)
     ∙ ap (place_of origin l k.corner) (cell_is k.vertical l m)
 
 -- places go with the origin, whatever the layout's reference

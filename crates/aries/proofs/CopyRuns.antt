@@ -15,7 +15,7 @@ use Rattle.aries.specs.Entries.{Made}
 use Rattle.aries.specs.Macros.{Body, run_body}
 use Rattle.aries.specs.Layouts.{copy_count, copy_place, copy_all, copy_over, copy_part}
 use Rattle.aries.specs.CopyRuns.{Circumstances, run, entries_of, moved_by, joined, SamePart}
-use Rattle.aries.proofs.Outcomes.{refused≢done}
+use Rattle.aries.proofs.Outcomes.{err≢ok}
 use Rattle.aries.proofs.Counts.{Counts}
 use Rattle.aries.proofs.Parts.{own_from}
 use Rattle.aries.proofs.Copies.{judging, copies, copies-entries}
@@ -53,7 +53,7 @@ module _ (vertical : Bool) (c : Circumstances) where
     run-stored = go (c.bodies c.part) refl (sym run_is_over ∙ e)
       where
         go : (o : Option Body) → c.bodies c.part ≡ o → over o c.setup.sheet ≡ Ok m → (b : Body) × (c.bodies c.part ≡ Some b)
-        go None p q = absurd (refused≢done (record { refusal = NotStored; line = c.line }) m q)
+        go None p q = absurd (err≢ok (record { refusal = NotStored; line = c.line }) m q)
         go (Some b) p q = (b, p)
 
     -- G98 is in force
@@ -62,7 +62,7 @@ module _ (vertical : Bool) (c : Circumstances) where
     run-laid_out = go c.setup.sheet refl (ap (λ (o : Option Body). over o c.setup.sheet) (sym run-stored.1) ∙ sym run_is_over ∙ e)
       where
         go : (sheet : Option Layout) → c.setup.sheet ≡ sheet → over (Some run-stored.0) sheet ≡ Ok m → (l : Layout) × (c.setup.sheet ≡ Some l)
-        go None p q = absurd (refused≢done (record { refusal = NoLayout; line = c.line }) m q)
+        go None p q = absurd (err≢ok (record { refusal = NoLayout; line = c.line }) m q)
         go (Some l) p q = (l, p)
 
     -- it is its copies

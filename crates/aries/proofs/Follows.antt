@@ -13,7 +13,7 @@ use Rattle.aries.specs.declared.state.State.{State}
 use Rattle.aries.specs.declared.mirror.Mirror.{Mirror}
 use Rattle.aries.specs.declared.state.Frame.{Frame}
 use Rattle.aries.specs.declared.state.Progress.{Progress}
-use Rattle.aries.specs.Outcome.{Out, ◌>>=◌, need}
+use Rattle.aries.specs.Outcome.{Out, ◌>>=◌, need, given}
 use Rattle.aries.specs.declared.entry.Entry.{Entry}
 use Rattle.aries.specs.Entries.{placed_by, Made, no_entry, adding, and_then, map_after}
 use Rattle.aries.specs.Judging.{Judging, room}
@@ -38,7 +38,6 @@ moved_state v s =
       tool = s.tool;
       memories = s.memories;
       spans = s.spans;
-      given = s.given;
     }
 
 -- the origin, whatever the places of the list and the mirrors are; the setting stays
@@ -100,6 +99,13 @@ module _ {E : Type 0} {j : Judging} {v : Motion} where
   follows_refused e why refusals = refusals
   follows_refused e why (moves d u u' f) = ends d u' (λ i _. why i)
   follows_refused e why (ends d u' f) = ends d u' f
+
+  -- past what is there for both
+  pub follows_given :
+      {A : Type 0} {n n' : Counts} {x y : A → Out (Made Progress)} (o : Option A) (refusal : Refusal) (line line' : ℕ)
+      → ((a : A) → Follows E j v n n' (x a) (y a)) → Follows E j v n n' (◌>>=◌ (given o refusal line) x) (◌>>=◌ (given o refusal line') y)
+  follows_given None refusal line line' r = refusals
+  follows_given (Some a) refusal line line' r = r a
 
   -- past a test
   pub follows_need :

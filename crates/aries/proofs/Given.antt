@@ -5,7 +5,6 @@ use mathlib.Core.Path.{◌≡◌, refl, subst}
 use mathlib.Core.Bool.{Bool, true, false}
 use mathlib.Core.List.{List, [], ◌∷◌}
 use Prim.Native.Nat.{ℕ, zero, suc, ◌-◌}
-use lib.Dec.{ltb}
 use lib.IntN.{ℤ, pos}
 use lib.ListN.{get_or}
 use Rattle.signed.proofs.Tests.{and_intro}
@@ -38,7 +37,8 @@ use Rattle.aries.specs.Entries.{Made, no_entry, adding, and_then, map_after}
 use Rattle.aries.specs.Judging.{Judging, is_near, judged, near, room}
 use Rattle.aries.specs.Machine.{in_range}
 use Rattle.aries.specs.Mirrors.{seen}
-use Rattle.aries.specs.Moves.{◌⊕◌, moved_to, choosing, remembering, dropping, giving, target, with_state, entered, hit_of, punch, position, move, set_pattern_origin}
+use Rattle.std.specs.Option.{option_or}
+use Rattle.aries.specs.Moves.{◌⊕◌, moved_to, choosing, remembering, dropping, giving, mirror_spans, target, with_state, entered, hit_of, punch, position, move, set_pattern_origin}
 use Rattle.aries.specs.Patterns.{hit_offset, hit_count, reach_is_near, shear_is_fit, punches, start_of, starting, ending, pattern, run_pattern, recalled, recall}
 use Rattle.aries.specs.Macros.{Body, Bodies, bodies_of, Calls, carry_direct, at_origin, carry_call, carry, may_come, Begun, begun_by, begin, run_block, run_line, run_lines, call, most_calls, run_body}
 use Rattle.aries.specs.Setup.{ordinary_frame, frame_at}
@@ -47,18 +47,18 @@ use Rattle.aries.specs.Bodies.{runs_first, first_run}
 use Rattle.aries.specs.Runs.{Lent, entries_made, Ran}
 use Rattle.aries.specs.Steady.{AxesNear, GivenNear, CallNear, CallsNear}
 use Rattle.aries.proofs.Judging.{near_both}
-use Rattle.aries.proofs.Outcomes.{done_injective, refused≢done}
+use Rattle.aries.proofs.Outcomes.{ok_injective, err≢ok}
 use Rattle.aries.proofs.Runs.{accepted_as}
 
--- ---- What is done
+-- ---- What is Ok
 
-abbrev DoneNear : Out (Made Progress) → Type 0
-DoneNear (Ok m) = GivenNear m.after.state
-DoneNear (Err e) = Unit {0}
+abbrev OkNear : Out (Made Progress) → Type 0
+OkNear (Ok m) = GivenNear m.after.state
+OkNear (Err e) = Unit {0}
 
--- what is done leaves them so
+-- what is Ok leaves them so
 pub record LeavesNear (x : Out (Made Progress)) : Type 0 where
-  pub left : DoneNear x
+  pub left : OkNear x
 
 -- from where they are
 abbrev pub NearFrom : (Progress → Out (Made Progress)) → Type 0
@@ -97,10 +97,10 @@ module _ (j : Judging) (f : Frame) (line : ℕ) where
   punch-near : (p : Point) → NearFrom (punch j f line p)
   unfolding punch
   punch-near p g h =
-      near-need (ltb 0 g.state.tool) NoTool line
-      (near-need (judged j.bounds (near (seen f p))) TooFar line
+      near-given g.state.tool NoTool line _ λ tool.
+      near-need (judged j.bounds (near (seen f p))) TooFar line
       (near-need (judged j.bounds (in_range f (seen f p))) OutOfRange line
-      (near-need (room j.places g.entries) ListFull line {x = Ok (entered (hit_of g.state (seen f p)) (with_state g (moved_to g.state p)))} (record { left = h }))))
+      (near-need (room j.places g.entries) ListFull line {x = Ok (entered (hit_of tool g.state (seen f p)) (with_state g (moved_to g.state p)))} (record { left = h })))
 
   punches-near : (p : Pattern) (start : Point) (n k : ℕ) → NearFrom (punches j f line p start n k)
   unfolding punches
@@ -142,7 +142,9 @@ module _ (j : Judging) (f : Frame) (line : ℕ) where
 
 -- ---- Calls
 
-last-near : (a : Option ℤ) (before : ℤ) → is_near before ≡ true → is_near (unwrap_or a (pos 0)) ≡ true → is_near (unwrap_or a before) ≡ true
+last-near :
+    (a before : Option ℤ) → is_near (unwrap_or before (pos 0)) ≡ true → is_near (unwrap_or a (pos 0)) ≡ true
+    → is_near (unwrap_or (option_or a before) (pos 0)) ≡ true
 last-near None before h k = h
 last-near (Some value) before h k = k
 
@@ -150,7 +152,7 @@ last-near (Some value) before h k = k
 pub giving-near : (s : State) (a : Axes) → GivenNear s → AxesNear a → GivenNear (giving s a)
 unfolding near
 giving-near s a h k =
-    let n = near_both s.spans h in
+    let n = near_both (mirror_spans s) h in
     and_intro _ _ (last-near a.x s.spans.x n.0 k.x) (last-near a.y s.spans.y n.1 k.y)
 
 -- what a call does
@@ -177,10 +179,10 @@ module _ (short : CallsNear) where
       go :
           (t : Bool) (o : Result Instruction Refusal) → decode (reader_of f g.state) l ≡ o
           → ◌>>=◌ (need t BlocksSpent line) (λ _. ◌>>=◌ (in_line line o) (λ i. Ok (begun_by l g i))) ≡ Ok b → BegunNear b
-      go false o d k = absurd (refused≢done (record { refusal = BlocksSpent; line = line }) b k)
-      go true (Err refusal) d k = absurd (refused≢done (record { refusal = refusal; line = line }) b k)
+      go false o d k = absurd (err≢ok (record { refusal = BlocksSpent; line = line }) b k)
+      go true (Err refusal) d k = absurd (err≢ok (record { refusal = refusal; line = line }) b k)
       go true (Ok i) d k =
-          subst BegunNear (done_injective _ _ k) (record { block = λ c a. short (reader_of f g.state) l i c d a; given = h })
+          subst BegunNear (ok_injective _ _ k) (record { block = λ c a. short (reader_of f g.state) l i c d a; given = h })
 
   module _ (j : Judging) (calls : Calls) (calling : CallingNear calls) (f : Frame) where
     carry-near : (line : ℕ) (b : Block) → ((c : Call) → b ≡ Block.Call c → CallNear c) → NearFrom (carry j calls f line b)
@@ -253,4 +255,4 @@ pub left_near :
     → LeavesNear out → GivenNear left.state
 left_near {left = left} out r h =
     let a = accepted_as left out r.same in
-    subst (λ (g : Progress). GivenNear g.state) a.after_is (subst DoneNear a.out_is h.left)
+    subst (λ (g : Progress). GivenNear g.state) a.after_is (subst OkNear a.out_is h.left)

@@ -27,7 +27,7 @@ use Rattle.aries.specs.Layouts.{copy_part}
 use Rattle.aries.specs.Bodies.{with_stored, open_body}
 use Rattle.aries.specs.Setup.{with_machine, reference_of, with_origin, set_origin, offset_by, ordinary_frame}
 use Rattle.aries.specs.Program.{with_progress, with_store, at_stage, in_place, started, settled, carry_outside, carry_out, is_storing, pass_over, run_block_outside, run_line_outside}
-use Rattle.aries.proofs.Outcomes.{refused≢done, done_injective, then_accepted}
+use Rattle.aries.proofs.Outcomes.{err≢ok, ok_injective, then_accepted}
 
 -- what is accepted leaves a setup with the property
 pub record Keeps (P : Setup → Type 0) (x : Out (Made Program)) : Type 0 where
@@ -35,10 +35,10 @@ pub record Keeps (P : Setup → Type 0) (x : Out (Made Program)) : Type 0 where
 
 module _ (P : Setup → Type 0) where
   keeps_refused : (e : Refused) → Keeps P (Err e)
-  keeps_refused e = record { kept = λ m is. absurd (refused≢done e m is) }
+  keeps_refused e = record { kept = λ m is. absurd (err≢ok e m is) }
 
-  pub keeps_done : (k : Made Program) → P k.after.setup → Keeps P (Ok k)
-  keeps_done k o = record { kept = λ m e. subst (λ (i : Made Program). P i.after.setup) (done_injective k m e) o }
+  pub keeps_ok : (k : Made Program) → P k.after.setup → Keeps P (Ok k)
+  keeps_ok k o = record { kept = λ m e. subst (λ (i : Made Program). P i.after.setup) (ok_injective k m e) o }
 
   keeps_bind : {A : Type 0} (x : Out A) (f : A → Out (Made Program)) → ((a : A) → Keeps P (f a)) → Keeps P (◌>>=◌ x f)
   keeps_bind (Err e) f h = keeps_refused e
@@ -46,7 +46,7 @@ module _ (P : Setup → Type 0) where
 
   keeps_map : {A : Type 0} (f : A → Program) (x : Out (Made A)) → ((a : A) → P (f a).setup) → Keeps P (map_after f x)
   keeps_map f (Err e) h = keeps_refused e
-  keeps_map f (Ok m) h = keeps_done _ (h m.after)
+  keeps_map f (Ok m) h = keeps_ok _ (h m.after)
 
   pub keeps_then :
       (x : Out (Made Program)) (f : Program → Out (Made Program)) → Keeps P x → ((p : Program) → P p.setup → Keeps P (f p))
@@ -64,21 +64,21 @@ module _ (P : Setup → Type 0) where
       (origin-keeps : (s : Setup) (sheet : Option Layout) (offset : Point) → P s → P (with_origin s sheet offset)) where
     started_keeps : (p : Program) (q : Point) (line : ℕ) (n : Option Machine) → P p.setup → Keeps P (started p q line n)
     started_keeps p q line None o = keeps_refused (record { refusal = NoMachine; line = line })
-    started_keeps p q line (Some m) o = keeps_done _ (machine-keeps p.setup m o)
+    started_keeps p q line (Some m) o = keeps_ok _ (machine-keeps p.setup m o)
 
     origin-settled : (j : Judging) (line : ℕ) (sheet : Option Layout) (offset : Point) (p : Program) → P p.setup → Keeps P (settled p (set_origin j line sheet offset p.setup))
     unfolding set_origin
     origin-settled j line sheet offset p o = go (judged j.bounds (near (reference_of sheet ⊕ offset)))
       where
         go : (t : Bool) → Keeps P (settled p (◌>>=◌ (need t TooFar line) (λ _. Ok (with_origin p.setup sheet offset))))
-        go true = keeps_done _ (origin-keeps p.setup sheet offset o)
+        go true = keeps_ok _ (origin-keeps p.setup sheet offset o)
         go false = keeps_refused (record { refusal = TooFar; line = line })
 
     module _ (j : Judging) (text : List ℕ) (next line : ℕ) (ls : List (List ℕ)) (p : Program) (o : P p.setup) where
       carry_outside_keeps : (b : Outside) → Keeps P (carry_outside j text next line ls b p)
       unfolding carry_outside
       carry_outside_keeps (Outside.Machine q) = started_keeps p q line (named q) o
-      carry_outside_keeps Outside.End = keeps_done _ o
+      carry_outside_keeps Outside.End = keeps_ok _ o
       carry_outside_keeps (Outside.Offset a) = origin-settled j line p.setup.sheet (offset_by a p.setup.offset) p o
       carry_outside_keeps (Outside.Layout l) = origin-settled j line (Some l) p.setup.offset p o
       carry_outside_keeps (Outside.Open n) = keeps_map (with_store p) (open_body j text n next line ls p.setup (with_stored p.macros p.progress)) (λ st. o)
@@ -101,8 +101,8 @@ module _ (P : Setup → Type 0) where
     pass_over_keeps l p o = go (starts_with letter_v l)
       where
         go : (t : Bool) → Keeps P (elim t as (λ _. Out (Made Program)) [ true ↦ no_entry (at_stage Running p) | false ↦ no_entry p ])
-        go true = keeps_done _ o
-        go false = keeps_done _ o
+        go true = keeps_ok _ o
+        go false = keeps_ok _ o
 
     run_block_outside_keeps :
         (j : Judging) (text : List ℕ) (next line : ℕ) (l : List ℕ) (ls : List (List ℕ)) (p : Program) → P p.setup
@@ -116,7 +116,7 @@ module _ (P : Setup → Type 0) where
     pub run_line_outside_keeps :
         (j : Judging) (text : List ℕ) (next line : ℕ) (l : List ℕ) (ls : List (List ℕ)) (p : Program) → P p.setup
         → Keeps P (run_line_outside j text next line l ls p)
-    run_line_outside_keeps j text next line [] ls p o = keeps_done _ o
+    run_line_outside_keeps j text next line [] ls p o = keeps_ok _ o
     run_line_outside_keeps j text next line (b ∷ bs) ls p o = go (is_storing p.stage)
       where
         go :

@@ -1,12 +1,13 @@
 -- Places counted back and forth through lanes of equal length: each lane and distance has its place, bounds, the first
--- lane, and lanes of one place.
+-- lane, lanes of one place, and how many there are.
 use mathlib.Core.Path.{◌≡◌, refl, ap, ap₂, ◌∙◌}
 use mathlib.Core.Bool.{Bool, true, false, cond}
 use Prim.Native.Nat.{ℕ, suc, ◌+◌, ◌*◌, ◌-◌, ◌/◌, ◌%◌, ◌<◌, ◌≤◌}
 use native.Mathlib.Nat.{mul-le-mul, le_refl, mod-lt, mod-eq_of_lt, div-eq_of_lt, div-lt_iff_lt-mul, mul-add-div_right, mul-add-mod_self_right}
 use native.Mathlib.Omega.{arith}
 use lib.Dec.{eqb}
-use Rattle.aries.specs.Lanes.{lane, along}
+use Rattle.aries.specs.declared.block.Steps.{Steps}
+use Rattle.aries.specs.Lanes.{lane, along, places, lane_end, last_lane}
 
 -- ---- The place of a lane and a distance along it
 
@@ -82,3 +83,29 @@ lane-single m = omega arith
 
 pub along-single : (m : ℕ) → along 0 m ≡ 0
 along-single m = let b = along_bound 0 m in omega arith
+
+-- ---- By steps
+
+module _ (vertical : Bool) (steps : Steps) where
+  -- there are as many places as in all lanes
+  pub places-lanes : places steps ≡ suc (lane_end vertical steps) * suc (last_lane vertical steps)
+  places-lanes = go vertical
+    where
+      go : (v : Bool) → places steps ≡ suc (lane_end v steps) * suc (last_lane v steps)
+      go true = omega arith
+      go false = refl
+
+  -- steps of 16 bits make lanes of 16 bits
+  pub last_lane_small : steps.x ≤ 65535 → steps.y ≤ 65535 → last_lane vertical steps ≤ 65535
+  last_lane_small h k = go vertical
+    where
+      go : (v : Bool) → last_lane v steps ≤ 65535
+      go true = h
+      go false = k
+
+-- steps of 16 bits make at most 65,536 by 65,536 places
+pub places_fit : (x y : ℕ) → x ≤ 65535 → y ≤ 65535 → suc x * suc y ≤ 4294967296
+places_fit x y h k =
+    let a : suc x ≤ 65536 = omega arith in
+    let b : suc y ≤ 65536 = omega arith in
+    mul-le-mul a b

@@ -6,6 +6,7 @@ pub mod Ranges
 pub mod Points
 pub mod Counts
 pub mod Outcomes
+pub mod InLine
 pub mod LineCounts
 pub mod Joined
 pub mod Lanes

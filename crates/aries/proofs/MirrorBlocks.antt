@@ -25,7 +25,7 @@ use Rattle.aries.specs.Macros.{Begun, Bodies, Calls, bodies_of, is_counted, may_
 use Rattle.aries.specs.Program.{with_progress, in_place, carry_out, is_storing, pass_over, run_block_outside, run_line_outside}
 use Rattle.aries.specs.MirrorRuns.{run_by}
 use Rattle.aries.specs.MirrorBlocks.{mirror_run, MirrorLinesRun}
-use Rattle.aries.proofs.Calls.{begin-done}
+use Rattle.aries.proofs.Calls.{begin-ok}
 use Rattle.aries.proofs.CopyBlocks.{not_blank}
 
 inside :
@@ -36,7 +36,7 @@ inside :
 unfolding run_block carry run_by
 inside bodies d f line [] g i m may e b = absurd (not_blank (reader_of f g.state) i e)
 inside bodies d f line (c ∷ l) g i m may e b =
-    ap (λ (x : Out Begun). ◌>>=◌ x (λ y. carry j calls f line y.block y.progress)) (begin-done j f line (c ∷ l) g may i e)
+    ap (λ (x : Out Begun). ◌>>=◌ x (λ y. carry j calls f line y.block y.progress)) (begin-ok j f line (c ∷ l) g may i e)
     ∙ ap (λ (k : Block). carry j calls f line k (begun (is_counted (c ∷ l)) i.measure g)) b
   where
     j : Judging
@@ -56,7 +56,7 @@ unfolding run_block_outside carry_out carry run_by
 outside text next line [] ls p i m running may e b = absurd (not_blank (reader_of (ordinary_frame p.setup) p.progress.state) i e)
 outside text next line (c ∷ l) ls p i m running may e b =
     ap (λ (t : Stage). elim (is_storing t) as (λ _. Out (Made Program)) [ true ↦ pass_over (c ∷ l) p | false ↦ run_block_outside j text next line (c ∷ l) ls p ]) running
-    ∙ ap (λ (x : Out Begun). ◌>>=◌ x goes_on) (begin-done j (ordinary_frame p.setup) line (c ∷ l) p.progress may i e)
+    ∙ ap (λ (x : Out Begun). ◌>>=◌ x goes_on) (begin-ok j (ordinary_frame p.setup) line (c ∷ l) p.progress may i e)
     ∙ ap₂ (λ (t : Stage) (k : Block). ◌>>=◌ (need (in_place t k) OutOfPlace line) (λ _. carry_out j text next line ls k (with_progress p began))) running b
   where
     j : Judging

@@ -19,10 +19,10 @@ use Rattle.aries.specs.Outcome.{Out}
 use Rattle.aries.specs.Entries.{placed_by, Made, map_after}
 use Rattle.aries.specs.Judging.{Judging, limits}
 use Rattle.aries.specs.Mirrors.{no_mirror, opened, reflected, mirrored, seen_from, seen}
-use Rattle.aries.specs.Moves.{point_at, zero_point, standing_at, giving}
+use Rattle.aries.specs.Moves.{mirror_spans, point_at, zero_point, standing_at, giving}
 use Rattle.aries.specs.Macros.{Calls, at_origin, call_mirrored, call}
 use Rattle.aries.specs.MirrorRuns.{mirror_alone, MirrorsCompose, unseen_from, unseen, MirrorsUndone, MirrorRun, run_by, turned_by, image_by, MirrorSentence}
-use Rattle.aries.proofs.Outcomes.{done_injective, refused≢done}
+use Rattle.aries.proofs.Outcomes.{ok_injective, err≢ok}
 use Rattle.aries.proofs.Points.{⊕-zero}
 use Rattle.aries.proofs.Counts.{Counts, counts_of, up_unique, Up}
 use Rattle.aries.proofs.Mirrors.{opened-twice, flipped_back, seen_none, seen-mirrored, reflected-twice}
@@ -43,15 +43,15 @@ module _ (call : Calls) (f : Frame) (line part : ℕ) (g : Progress) where
   called_in m = call (record { job = f.job; machine = f.machine; origin = f.origin; mirror = m }) part line (at_origin f g)
 
   -- a G73 in a G73 calls it in both mirrors
-  two_mirrors : (q p n : ℕ) → call_mirrored (mirror_alone call p part) f line q n g ≡ map_after (at_origin f) (called_in (opened p g.state.spans (opened q g.state.spans f.mirror)))
-  two_mirrors q p n = left_again f (called_in (opened p g.state.spans (opened q g.state.spans f.mirror)))
+  two_mirrors : (q p n : ℕ) → call_mirrored (mirror_alone call p part) f line q n g ≡ map_after (at_origin f) (called_in (opened p (mirror_spans g.state) (opened q (mirror_spans g.state) f.mirror)))
+  two_mirrors q p n = left_again f (called_in (opened p (mirror_spans g.state) (opened q (mirror_spans g.state) f.mirror)))
 
 pub mirrors_compose : MirrorsCompose
 mirrors_compose =
     record {
       twice = λ call f line q n part g.
           two_mirrors call f line part g q q n
-          ∙ ap (λ (m : Mirror). map_after (at_origin f) (called_in call f line part g m)) (opened-twice q g.state.spans f.mirror);
+          ∙ ap (λ (m : Mirror). map_after (at_origin f) (called_in call f line part g m)) (opened-twice q (mirror_spans g.state) f.mirror);
       three_in_two = λ call f line n part g. two_mirrors call f line part g 2 3 n;
       two_in_three = λ call f line n part g. two_mirrors call f line part g 3 2 n;
       point-twice = reflected-twice;
@@ -98,7 +98,7 @@ still to = record { by = zero_point; to = to }
 
 state_stays : (s : State) → moved_state zero_point s ≡ s
 state_stays s =
-    ap₂ (λ (p : Point) (w : Option Point). record { current = p; waiting = w; incremental = s.incremental; nibble = s.nibble; tool = s.tool; memories = s.memories; spans = s.spans; given = s.given })
+    ap₂ (λ (p : Point) (w : Option Point). record { current = p; waiting = w; incremental = s.incremental; nibble = s.nibble; tool = s.tool; memories = s.memories; spans = s.spans })
     (⊕-zero s.current) (go s.waiting)
   where
     go : (w : Option Point) → moved_waiting zero_point w ≡ w
@@ -112,7 +112,7 @@ frame_stays m f = ap (λ (p : Point). record { job = f.job; machine = f.machine;
 
 module _ (c : MirrorRun) where
   abbrev spans : Point
-  spans = (giving c.before.state c.axes).spans
+  spans = mirror_spans (giving c.before.state c.axes)
 
   abbrev found : State
   found = standing_at (giving c.before.state c.axes) c.frame.origin
@@ -153,8 +153,8 @@ module _ (c : MirrorRun) where
     where
       go : (x : Out (Made Progress)) → inside q ≡ x → map_after (at_origin c.frame) x ≡ Ok m
           → (k : Made Progress) × (inside q ≡ Ok k) × (m ≡ record { entries = k.entries; after = at_origin c.frame k.after })
-      go (Ok k) p h = (k, p, sym (done_injective _ _ h))
-      go (Err e) p h = absurd (refused≢done e m h)
+      go (Ok k) p h = (k, p, sym (ok_injective _ _ h))
+      go (Err e) p h = absurd (err≢ok e m h)
 
 -- entries whose hits go to the same places
 placed_alike : (to to' : Point → Point) → ((p : Point) → to p ≡ to' p) → (es : List Entry) → map (placed_by to) es ≡ map (placed_by to') es
@@ -177,7 +177,7 @@ same_end {n = n} {n' = n'} {k = k} {k' = k'} r r' =
     ap₂ (λ (s : State) (c : Counts). progress s c) states (ap₂ (λ (b e : ℕ). record { blocks = b; entries = e }) blocks entries)
   where
     same : r.other ≡ r'.other
-    same = done_injective _ _ (sym r.other_is ∙ r'.other_is)
+    same = ok_injective _ _ (sym r.other_is ∙ r'.other_is)
 
     states : k'.after.state ≡ k.after.state
     states = r'.together.state ∙ ap (λ (m : Made Progress). moved_state zero_point m.after.state) (sym same) ∙ sym r.together.state
@@ -201,7 +201,7 @@ turned q c m m' e e' =
     let second = follows_accepted (inside c q) (free c) b.0 b.1
     (inside_follows c q (image_by q c)
     (λ p. seen-mirrored q (spans c) f p ∙ ap (λ (z : Point). seen f (reflected q (spans c) f.origin z)) (sym (unseen-seen f p)))) in
-    let made : first.other ≡ second.other = done_injective _ _ (sym first.other_is ∙ second.other_is) in (
+    let made : first.other ≡ second.other = ok_injective _ _ (sym first.other_is ∙ second.other_is) in (
       ap (λ (k : Made Progress). k.entries) b.2 ∙ second.together.moved
           ∙ ap (λ (k : Made Progress). map (placed_by (image_by q c)) k.entries) (sym made)
           ∙ ap (map (placed_by (image_by q c))) (sym (ap (λ (k : Made Progress). k.entries) a.2 ∙ first.together.moved ∙ placed_stays first.other.entries)),

@@ -5,7 +5,6 @@ use mathlib.Core.Bool.{Bool, true, false}
 use mathlib.Core.List.{List, [], ◌∷◌, ◌++◌}
 use Prim.Native.Nat.{ℕ, zero, suc, ◌-◌}
 use borrow.Author.Tests.{eq-eqb}
-use lib.Dec.{ltb}
 use lib.IntN.{ℤ}
 use lib.ListN.{get_or}
 use Rattle.aries.specs.declared.refusal.Refusal.{Refusal}
@@ -18,7 +17,7 @@ use Rattle.aries.specs.declared.entry.Entry.{Entry}
 use Rattle.aries.specs.declared.point.Point.{Point}
 use Rattle.aries.specs.declared.state.Frame.{Frame}
 use Rattle.aries.specs.declared.state.Progress.{Progress}
-use Rattle.aries.specs.Outcome.{Out, ◌>>=◌, need}
+use Rattle.aries.specs.Outcome.{Out, ◌>>=◌, need, given}
 use Rattle.aries.specs.Entries.{Made, adding, and_then, map_after}
 use Rattle.aries.specs.Judging.{Judging, room, judged, near}
 use Rattle.aries.specs.Machine.{in_range}
@@ -26,23 +25,30 @@ use Rattle.aries.specs.Mirrors.{seen}
 use Rattle.aries.specs.Moves.{◌⊕◌, moved_to, entered, hit_of, target, choosing, dropping, remembering, with_state, punch, position}
 use Rattle.aries.specs.Patterns.{hit_offset, hit_count, reach_is_near, shear_is_fit, punches, start_of, starting, ending, pattern, run_pattern, recalled, recall}
 use Rattle.aries.specs.Runs.{lent, lent_both, Ran, entries_made}
-use Rattle.aries.specs.Tallying.{with_hits}
+use Rattle.aries.specs.Tallying.{with_chosen}
 use Rattle.aries.proofs.Runs.{left_is}
 use Rattle.aries.proofs.Tallied.{AllBy, ran_hits}
 
--- what is done leaves a tool, and its entries are hits with it
-abbrev DoneWith : ℕ → Out (Made Progress) → Type 0
-DoneWith tool (Err e) = Unit {0}
-DoneWith tool (Ok m) = (m.after.state.tool ≡ tool) × AllBy tool m.entries
+-- what is Ok leaves a tool, and its entries are hits with it
+abbrev OkWith : Option ℕ → Out (Made Progress) → Type 0
+OkWith tool (Err e) = Unit {0}
+OkWith tool (Ok m) = (m.after.state.tool ≡ tool) × AllBy tool m.entries
 
-pub record OneTool (tool : ℕ) (x : Out (Made Progress)) : Type 0 where
-  pub with_it : DoneWith tool x
+pub record OneTool (tool : Option ℕ) (x : Out (Made Progress)) : Type 0 where
+  pub with_it : OkWith tool x
 
-all_append : (tool : ℕ) (a b : List Entry) → AllBy tool a → AllBy tool b → AllBy tool (a ++ b)
+all_append : (tool : Option ℕ) (a b : List Entry) → AllBy tool a → AllBy tool b → AllBy tool (a ++ b)
 all_append tool [] b h k = k
 all_append tool (e ∷ a) b h k = (h.0, all_append tool a b h.1 k)
 
-module _ {tool : ℕ} where
+module _ {tool : Option ℕ} where
+  -- past a tool that is chosen
+  one-given :
+      (o : Option ℕ) (refusal : Refusal) (line : ℕ) {k : ℕ → Out (Made Progress)} → ((t : ℕ) → o ≡ Some t → OneTool tool (k t))
+      → OneTool tool (◌>>=◌ (given o refusal line) k)
+  one-given None refusal line h = record { with_it = tt }
+  one-given (Some t) refusal line h = h t refl
+
   -- past a test
   one-need : (t : Bool) (refusal : Refusal) (line : ℕ) {x : Out (Made Progress)} → OneTool tool x → OneTool tool (◌>>=◌ (need t refusal line) (λ _. x))
   one-need true refusal line h = h
@@ -69,15 +75,16 @@ ending_tool (Grid vertical pitch steps) start g = refl
 ending_tool (Shear j s) start g = refl
 
 module _ (j : Judging) (f : Frame) (line : ℕ) where
-  one-punch : {tool : ℕ} (p : Point) (g : Progress) → g.state.tool ≡ tool → OneTool tool (punch j f line p g)
+  one-punch : {tool : Option ℕ} (p : Point) (g : Progress) → g.state.tool ≡ tool → OneTool tool (punch j f line p g)
   unfolding punch
   one-punch {tool} p g e =
-      one-need (ltb 0 g.state.tool) NoTool line
-      (one-need (judged j.bounds (near (seen f p))) TooFar line
+      one-given g.state.tool NoTool line λ t is.
+      one-need (judged j.bounds (near (seen f p))) TooFar line
       (one-need (judged j.bounds (in_range f (seen f p))) OutOfRange line
-      (one-need (room j.places g.entries) ListFull line {x = Ok (entered (hit_of g.state (seen f p)) (with_state g (moved_to g.state p)))} (record { with_it = (e, (eq-eqb g.state.tool tool e, tt)) }))))
+      (one-need (room j.places g.entries) ListFull line {x = Ok (entered (hit_of t g.state (seen f p)) (with_state g (moved_to g.state p)))}
+      (record { with_it = (e, subst (λ (o : Option ℕ). AllBy o (hit_of t g.state (seen f p) ∷ [])) (sym is ∙ e) (eq-eqb t t refl, tt)) })))
 
-  one-punches : {tool : ℕ} (p : Pattern) (start : Point) (n k : ℕ) (g : Progress) → g.state.tool ≡ tool → OneTool tool (punches j f line p start n k g)
+  one-punches : {tool : Option ℕ} (p : Pattern) (start : Point) (n k : ℕ) (g : Progress) → g.state.tool ≡ tool → OneTool tool (punches j f line p start n k g)
   unfolding punches
   one-punches p start zero k g e = record { with_it = (e, tt) }
   one-punches p start (suc n) k g e =
@@ -93,11 +100,11 @@ module _ (j : Judging) (f : Frame) (line : ℕ) where
 
   -- ---- The three blocks that punch
 
-  pub one-position : (a : Axes) (t : ℕ) (g : Progress) → OneTool (choosing g.state t).tool (position j f line a t g)
+  pub one-position : (a : Axes) (t : Option ℕ) (g : Progress) → OneTool (choosing g.state t).tool (position j f line a t g)
   unfolding position
   one-position a t g = one-punch (target f g.state a) (with_state g (dropping (choosing g.state t))) refl
 
-  pub one-run : (p : Pattern) (t a : ℕ) (g : Progress) → OneTool (choosing g.state t).tool (run_pattern j f line p t a g)
+  pub one-run : (p : Pattern) (t a : Option ℕ) (g : Progress) → OneTool (choosing g.state t).tool (run_pattern j f line p t a g)
   unfolding run_pattern
   one-run p t a g = one-pattern p (with_state g (remembering (choosing g.state t) a p))
 
@@ -110,16 +117,16 @@ module _ (j : Judging) (f : Frame) (line : ℕ) where
       go (Some p) = one-pattern p g
 
 -- by the tool that is left
-hits_by_left : {tool : ℕ} (x : Out (Made Progress)) (m : Made Progress) → OneTool tool x → x ≡ Ok m → AllBy m.after.state.tool m.entries
+hits_by_left : {tool : Option ℕ} (x : Out (Made Progress)) (m : Made Progress) → OneTool tool x → x ≡ Ok m → AllBy m.after.state.tool m.entries
 hits_by_left {tool} x m h e =
-    let a = subst (DoneWith tool) e h.with_it in
-    subst (λ (t : ℕ). AllBy t m.entries) (sym a.0) a.1
+    let a = subst (OkWith tool) e h.with_it in
+    subst (λ (t : Option ℕ). AllBy t m.entries) (sym a.0) a.1
 
 -- something carried out with the list alone, with its hits counted by the tool that is left
 pub carried_hits :
-    {job : Job} {left : Progress} {l l' : List ℤ} {k tool : ℕ} {out : Out (Made Progress)} (t : List ℕ) → OneTool tool out
+    {job : Job} {left : Progress} {l l' : List ℤ} {k : ℕ} {tool : Option ℕ} {out : Out (Made Progress)} (t : List ℕ) → OneTool tool out
     → Ran entries_made job (Ok left) (lent l) (lent l') k out
-    → Ran entries_made job (Ok left) (lent_both l t) (lent_both l' (with_hits t left.state.tool k left.entries)) k out
+    → Ran entries_made job (Ok left) (lent_both l t) (lent_both l' (with_chosen t left.state.tool k left.entries)) k out
 carried_hits {left = left} {out = out} t h ran =
     ran_hits ran t left.state.tool left.entries
     (λ m e. subst (λ (g : Progress). AllBy g.state.tool m.entries) (sym (left_is ran.same m e)) (hits_by_left out m h e))

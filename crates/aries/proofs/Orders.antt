@@ -13,8 +13,8 @@ use Rattle.aries.specs.declared.block.Layout.{Layout}
 use Rattle.aries.specs.declared.entry.Hit.{Hit}
 use Rattle.aries.specs.declared.entry.Entry.{Entry}
 use Rattle.aries.specs.Entries.{hits_in}
-use Rattle.aries.specs.Lanes.{lane, along}
-use Rattle.aries.specs.Layouts.{copy_count, column_of, row_of, from_right, from_top, facing, place_at, copy_place}
+use Rattle.aries.specs.Lanes.{lane, along, column_of, row_of}
+use Rattle.aries.specs.Layouts.{copy_count, from_right, from_top, facing, place_at, copy_place}
 use Rattle.aries.specs.CopyRuns.{run, entries_of, own_entries, moved_hit, moved_by, joined, Alike, single_row, single_column, no_pitch, hitless, EqualExactlyWhen}
 use Rattle.aries.proofs.Points.{+ℤ-cancel-left, hits_moved, hitless_stays}
 use Rattle.aries.proofs.Joined.{joined_cong, joined-second}
@@ -28,7 +28,7 @@ use Rattle.aries.proofs.CopyRuns.{run-entries}
 module _ (origin : Point) (l : Layout) (q : ℕ) where
   -- the place of copy m in one order
   place_in : Bool → ℕ → Point
-  place_in vertical m = place_at origin l q (column_of vertical l m) (row_of vertical l m)
+  place_in vertical m = place_at origin l q (column_of vertical l.steps m) (row_of vertical l.steps m)
 
   in_a_row : l.steps.y ≡ 0 → (m : ℕ) → m < copy_count l → place_in false m ≡ place_in true m
   unfolding place_in

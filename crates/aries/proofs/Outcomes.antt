@@ -1,6 +1,6 @@
 -- Laws of what is accepted: a refusal is none, and what two things one after the other say of each.
 use Rattle.std.specs.Prelude.{Result, Err, Ok}
-use mathlib.Core.Path.{◌≡◌, refl, sym, ap, ◌∙◌, subst}
+use mathlib.Core.Path.{◌≡◌, refl, sym, ap, ◌∙◌}
 use mathlib.Core.Bool.{Bool, true, false}
 use mathlib.Core.List.{List, ◌++◌, append_assoc}
 use Prim.Native.Nat.{ℕ}
@@ -9,27 +9,14 @@ use Rattle.aries.specs.Outcome.{Out, ◌>>=◌, need}
 use Rattle.aries.specs.declared.entry.Entry.{Entry}
 use Rattle.aries.specs.Entries.{Made, adding, and_then}
 
-abbrev IsRefused : {A E : Type 0} → Result A E → Type 0
-IsRefused (Err e) = Unit {0}
-IsRefused (Ok a) = ⊥
+pub err≢ok : {A E : Type 0} (e : E) (a : A) → ◌≡◌ {A = Result A E} (Err e) (Ok a) → ⊥
+err≢ok e a is = cc
 
-pub refused≢done : {A E : Type 0} (e : E) (a : A) → ◌≡◌ {A = Result A E} (Err e) (Ok a) → ⊥
-refused≢done e a is = subst IsRefused is tt
+pub ok_injective : {A E : Type 0} (a b : A) → ◌≡◌ {A = Result A E} (Ok a) (Ok b) → a ≡ b
+ok_injective a b e = cc
 
-abbrev result_or : {A E : Type 0} → A → Result A E → A
-result_or a (Err e) = a
-result_or a (Ok b) = b
-
-pub done_injective : {A E : Type 0} (a b : A) → ◌≡◌ {A = Result A E} (Ok a) (Ok b) → a ≡ b
-done_injective a b e = ap (result_or a) e
-
-abbrev refusal_or : {A E : Type 0} → E → Result A E → E
-refusal_or e (Ok a) = e
-refusal_or e (Err r) = r
-
--- one refusal is the other
-pub err_as : {A E : Type 0} (e r : E) → ◌≡◌ {A = Result A E} (Err e) (Err r) → e ≡ r
-err_as e r is = ap (refusal_or e) is
+pub err_injective : {A E : Type 0} (e r : E) → ◌≡◌ {A = Result A E} (Err e) (Err r) → e ≡ r
+err_injective e r is = cc
 
 -- one thing and another, and then a third
 pub >>=-assoc : {A B C : Type 0} (x : Out A) (f : A → Out B) (g : B → Out C) → ◌>>=◌ (◌>>=◌ x f) g ≡ ◌>>=◌ x (λ a. ◌>>=◌ (f a) g)
@@ -40,7 +27,7 @@ pub >>=-assoc : {A B C : Type 0} (x : Out A) (f : A → Out B) (g : B → Out C)
 pub need_accepted :
     {A : Type 0} (t : Bool) (refusal : Refusal) (line : ℕ) (x : Out A) (a : A) → ◌>>=◌ (need t refusal line) (λ _. x) ≡ Ok a → (t ≡ true) × (x ≡ Ok a)
 need_accepted true refusal line x a e = (refl, e)
-need_accepted false refusal line x a e = absurd (refused≢done (record { refusal = refusal; line = line }) a e)
+need_accepted false refusal line x a e = absurd (err≢ok (record { refusal = refusal; line = line }) a e)
 
 -- the first was accepted, and then the second: its entries come after, and what it leaves is left
 pub record Both {A : Type 0} (x : Out (Made A)) (f : A → Out (Made A)) (m : Made A) : Type 0 where
@@ -52,13 +39,13 @@ pub record Both {A : Type 0} (x : Out (Made A)) (f : A → Out (Made A)) (m : Ma
   pub after_is : m.after ≡ second.after
 
 pub then_accepted : {A : Type 0} (x : Out (Made A)) (f : A → Out (Made A)) (m : Made A) → and_then x f ≡ Ok m → Both x f m
-then_accepted (Err r) f m e = absurd (refused≢done r m e)
+then_accepted (Err r) f m e = absurd (err≢ok r m e)
 then_accepted {A} (Ok k) f m e = go (f k.after) refl e
   where
     go : (y : Out (Made A)) → f k.after ≡ y → adding k.entries y ≡ Ok m → Both (Ok k) f m
-    go (Err e) p q = absurd (refused≢done e m q)
+    go (Err e) p q = absurd (err≢ok e m q)
     go (Ok r) p q =
-        let d : record { entries = k.entries ++ r.entries; after = r.after } ≡ m = done_injective _ _ q in
+        let d : record { entries = k.entries ++ r.entries; after = r.after } ≡ m = ok_injective _ _ q in
         record {
           first = k;
           second = r;

@@ -1,7 +1,7 @@
 -- Demand 1, of refusals: past 1 each has a number from 2 to 18 and the line of a block that is carried out (`Sound`). Of the
 -- blocks of bodies too that is a line of the text: wherever a program comes, all that is stored lies within its lines. And the
--- tool that it has chosen is at most 99, so that all hits of a text that is not refused have tools, from which `Tools` goes on.
-use Rattle.std.specs.Prelude.{Err, None, Ok, Option, Some}
+-- tool that it has chosen is from 1 to 99, so that all hits of a text that is not refused have tools, from which `Tools` goes on.
+use Rattle.std.specs.Prelude.{IfSome, Err, None, Ok, Option, Some}
 use mathlib.Core.Path.{◌≡◌, refl, sym, ap, ◌∙◌, subst}
 use mathlib.Core.Bool.{Bool, true, false, true≢false, ◌&&◌}
 use mathlib.Core.List.{List, [], ◌∷◌}
@@ -10,8 +10,8 @@ use native.Mathlib.Nat.{add_assoc}
 use native.Mathlib.Omega.{arith}
 use lib.Dec.{leb, ltb, eqb}
 use lib.IntN.{ℤ}
-use lib.ListN.{length, drop}
-use lib.Seq.{drop-drop, get_or-set_same, get_or-set_other}
+use lib.ListN.{length, length-set, drop}
+use lib.Seq.{drop-drop}
 use borrow.Author.Tests.{ltb-true, ltb-false, eqb-true, eqb-false, leb-true}
 use Rattle.aries.specs.declared.refusal.Refusal.TheVariants.{TextLength, OutOfPlace, NotClosed, StoreFull, TooFar}
 use Rattle.aries.specs.declared.block.Layout.{Layout}
@@ -35,22 +35,23 @@ use Rattle.aries.specs.Entries.{Made, no_entry}
 use Rattle.aries.specs.Judging.{Judging, judged, near, limits, lending}
 use Rattle.aries.specs.Machine.{named}
 use Rattle.aries.specs.Moves.{◌⊕◌}
-use Rattle.aries.specs.Macros.{Body, no_macros, bodies_of, storing, part, characters, most_calls, run_body, call, carry, begin}
+use Rattle.aries.specs.Macros.{Body, no_macros, bodies_of, body_start, storing, part, characters, most_calls, run_body, call, carry, begin}
 use Rattle.aries.specs.Setup.{reference_of, with_origin, set_origin, offset_by, ordinary_frame}
 use Rattle.aries.specs.Bodies.{body_size, most_characters, runs_first, first_run, body_from, stored_at, Store, with_stored, open_body}
 use Rattle.aries.specs.Reader.{setting_of, reader_of}
 use Rattle.aries.specs.Program.{with_progress, with_store, at_stage, fresh_program, in_place, started, settled, carry_outside, carry_out, is_storing, pass_over, run_block_outside, run_line_outside, run_from, is_ended, no_stray, perform, expand}
 use Rattle.aries.specs.Refusals.{RefusalOf, RefusalsNamed}
 use Rattle.aries.proofs.LineCounts.{lines-some, lines-take, lines_dense, lines_next, stray_inside}
-use Rattle.aries.proofs.Storage.{found_fresh, storing_out}
+use Rattle.aries.proofs.Storage.{found_fresh, found_other, found_same, storing_out}
 use Rattle.aries.proofs.ToolWords.{BlockFits}
-use Rattle.aries.proofs.Sound.{LineOf, HitsNamed, Any, Each, Proper, Sound, ToolFits, SoundFrom, BodyOf, BodiesOf, sound_refused, sound_done, sound_bind, sound_need, sound_given, sound_then, sound_map, begin_proper, carry_sound, call_sound, run_body_sound, copy_part_sound}
+use Rattle.aries.proofs.Sound.{LineOf, HitsNamed, Any, Proper, Sound, ToolFits, SoundFrom, BodyOf, BodiesOf, sound_refused, sound_ok, sound_bind, sound_need, sound_given, sound_then, sound_map, begin_proper, carry_sound, call_sound, run_body_sound, copy_part_sound}
 
 -- ---- What is stored
 
 -- each body lies within the lines of the text
 pub record StoreOf (last : ℕ) (text : List ℕ) (m : Macros) : Type 0 where
   pub stored : BodiesOf last (bodies_of text m)
+  pub paired : length m.starts ≡ length m.ends
 
 module _ (last : ℕ) (text : List ℕ) where
   -- one body more
@@ -58,15 +59,20 @@ module _ (last : ℕ) (text : List ℕ) where
       (m : Macros) (n : ℕ) (b : StoredBody) → StoreOf last text m → BodyOf last (record { line = b.line; bytes = part text b.start b.end })
       → StoreOf last text (storing m n b)
   unfolding bodies_of
-  storing_of m n b s k = go (ltb n (length m.bodies)) refl
+  storing_of m n b s k = go (ltb n (length m.starts)) refl
     where
-      at : n < length m.bodies → (i : ℕ) (t : Bool) → eqb i n ≡ t → Each (BodyOf last) (bodies_of text (storing m n b) i)
-      at h i true e = rw (eqb-true i n e, get_or-set_same m.bodies n (Some b) None h) k
-      at h i false e = rw (get_or-set_other m.bodies n i (Some b) None (eqb-false i n e)) (s.stored i)
+      at : n < length m.starts → (i : ℕ) (t : Bool) → eqb i n ≡ t → IfSome (bodies_of text (storing m n b) i) (BodyOf last)
+      at h i true e = rw (eqb-true i n e, found_same m n b h (omega (arith, s.paired))) k
+      at h i false e = rw (found_other m n i b (eqb-false i n e)) (s.stored i)
 
-      go : (t : Bool) → ltb n (length m.bodies) ≡ t → StoreOf last text (storing m n b)
-      go true e = record { stored = λ i. at (ltb-true _ _ e) i (eqb i n) refl }
-      go false e = rw (storing_out m n b (ltb-false n (length m.bodies) e)) s
+      pairs : length (storing m n b).starts ≡ length (storing m n b).ends
+      pairs = length-set m.starts n (Some (body_start b)) ∙ s.paired ∙ sym (length-set m.ends n b.end)
+
+      go : (t : Bool) → ltb n (length m.starts) ≡ t → StoreOf last text (storing m n b)
+      go true e = record { stored = λ i. at (ltb-true _ _ e) i (eqb i n) refl; paired = pairs }
+      go false e =
+          let past : length m.starts ≤ n = ltb-false n (length m.starts) e in
+          rw (storing_out m n b past (omega (arith, s.paired))) s
 
   -- ---- U lines
 
@@ -77,7 +83,7 @@ module _ (last : ℕ) (text : List ℕ) where
     where
       go : (t : Bool) → Sound {A = Progress} last ToolFits (elim t [ true ↦ run_body j (bodies_of text m) (most_calls - 1) (ordinary_frame s) b g | false ↦ no_entry g ])
       go true = run_body_sound j (bodies_of text m) st.stored (most_calls - 1) (ordinary_frame s) b k g fits
-      go false = sound_done fits
+      go false = sound_ok fits
 
   module _ (j : Judging) (line : ℕ) (h : LineOf last line) where
     -- the body lies within the lines that follow
@@ -99,7 +105,7 @@ module _ (last : ℕ) (text : List ℕ) where
         (first_run_sound j st.macros n (body_from text start size line) s k b st.progress fits)
         (λ g fits'. (storing_of st.macros n (record { start = start; end = start + size; line = suc line }) k b, fits')))
       where
-        any : (o : Option ℕ) → Each Any o
+        any : (o : Option ℕ) → IfSome o Any
         any None = tt
         any (Some size) = tt
 
@@ -116,19 +122,19 @@ module _ (last : ℕ) (text : List ℕ) where
   settled_sound j line h sheet offset s p k = go (judged j.bounds (near (reference_of sheet ⊕ offset)))
     where
       go : (t : Bool) → Sound last Held (settled p (◌>>=◌ (need t TooFar line) (λ _. Ok (with_origin s sheet offset))))
-      go true = sound_done k
+      go true = sound_ok k
       go false = sound_refused refl h
 
   started_sound : (p : Program) (q : Point) (line : ℕ) → LineOf last line → (n : Option Machine) → Held p → Sound last Held (started p q line n)
   started_sound p q line h None k = sound_refused refl h
-  started_sound p q line h (Some m) k = sound_done k
+  started_sound p q line h (Some m) k = sound_ok k
 
   pass_over_sound : (l : List ℕ) (p : Program) → Held p → Sound last Held (pass_over l p)
   pass_over_sound l p k = go (starts_with letter_v l)
     where
       go : (t : Bool) → Sound last Held (elim t as (λ _. Out (Made Program)) [ true ↦ no_entry (at_stage Running p) | false ↦ no_entry p ])
-      go true = sound_done k
-      go false = sound_done k
+      go true = sound_ok k
+      go false = sound_ok k
 
   -- the lines given are those of the text from the next place on
   module _
@@ -137,7 +143,7 @@ module _ (last : ℕ) (text : List ℕ) where
     carry_outside_sound : (b : Outside) (p : Program) → Held p → Sound last Held (carry_outside j text next line ls b p)
     unfolding carry_outside
     carry_outside_sound (Outside.Machine q) p k = started_sound p q line h (named q) k
-    carry_outside_sound Outside.End p k = sound_done k
+    carry_outside_sound Outside.End p k = sound_ok k
     carry_outside_sound (Outside.Offset a) p k = settled_sound j line h p.setup.sheet (offset_by a p.setup.offset) p.setup p k
     carry_outside_sound (Outside.Layout l) p k = settled_sound j line h (Some l) p.setup.offset p.setup p k
     carry_outside_sound (Outside.Open n) p k =
@@ -170,7 +176,7 @@ module _ (last : ℕ) (text : List ℕ) where
         sound_need (in_place p.stage b.block) OutOfPlace refl h (carry_out_sound b.block fits.0 (with_progress p b.progress) (k.0, fits.1))
 
     run_line_outside_sound : (l : List ℕ) (p : Program) → Held p → Sound last Held (run_line_outside j text next line l ls p)
-    run_line_outside_sound [] p k = sound_done k
+    run_line_outside_sound [] p k = sound_ok k
     run_line_outside_sound (b ∷ bs) p k = go (is_storing p.stage)
       where
         go : (t : Bool) → Sound last Held (elim t as (λ _. Out (Made Program)) [ true ↦ pass_over (b ∷ bs) p | false ↦ run_block_outside j text next line (b ∷ bs) ls p ])
@@ -181,7 +187,7 @@ module _ (last : ℕ) (text : List ℕ) where
       (j : Judging) (at line : ℕ) (ls : List (List ℕ)) (p : Program) → lines (drop at text) ≡ ls → 1 ≤ line → line + length ls ≤ suc last → Held p
       → Sound last Held (run_from j text at line ls p)
   unfolding run_from
-  run_from_sound j at line [] p e a b k = sound_done k
+  run_from_sound j at line [] p e a b k = sound_ok k
   run_from_sound j at line (l ∷ ls) p e a b k =
       sound_then (run_line_outside j text (at + length l + 1) line l ls p) _
       (run_line_outside_sound j (at + length l + 1) line (record { from = a; to = omega arith }) ls next b l p k)
@@ -197,7 +203,7 @@ module _ (last : ℕ) (text : List ℕ) where
 
 nothing_stored : (last : ℕ) (text : List ℕ) → StoreOf last text no_macros
 unfolding bodies_of
-nothing_stored last text = record { stored = λ n. rw (found_fresh n) tt }
+nothing_stored last text = record { stored = λ n. rw (found_fresh n) tt; paired = refl }
 
 within-bounds : (a b x : ℕ) → within a b x ≡ true → (a ≤ x) × (x ≤ b)
 within-bounds a b x e = go (leb a x) (leb x b) refl refl e

@@ -18,7 +18,7 @@ use Rattle.aries.specs.Test.{within}
 use Rattle.aries.specs.Numbers.{last_tool}
 use Rattle.aries.specs.Runs.{left_of, Lent, lent_both, lent, write, list_put, put, over, Ran}
 use Rattle.aries.specs.Tallying.{hits_noted, tally_put}
-use Rattle.aries.proofs.Outcomes.{done_injective, refused≢done, err_as}
+use Rattle.aries.proofs.Outcomes.{ok_injective, err≢ok, err_injective}
 
 -- ---- What is lent
 
@@ -67,17 +67,17 @@ pub record Accepted {A : Type 0} (a : A) (out : Out (Made A)) : Type 0 where
   pub after_is : made.after ≡ a
 
 pub accepted_as : {A : Type 0} (a : A) (out : Out (Made A)) → Ok a ≡ left_of out → Accepted a out
-accepted_as a (Ok m) e = record { made = m; out_is = refl; after_is = done_injective m.after a (sym e) }
-accepted_as a (Err r) e = absurd (refused≢done r a (sym e))
+accepted_as a (Ok m) e = record { made = m; out_is = refl; after_is = ok_injective m.after a (sym e) }
+accepted_as a (Err r) e = absurd (err≢ok r a (sym e))
 
 -- what is left is what the definitions leave
 pub left_is : {A : Type 0} {left : A} {out : Out (Made A)} → Ok left ≡ left_of out → (m : Made A) → out ≡ Ok m → left ≡ m.after
-left_is {left = left} same m e = done_injective left m.after (same ∙ ap left_of e)
+left_is {left = left} same m e = ok_injective left m.after (same ∙ ap left_of e)
 
 -- the refusal that is told
 pub refused_out : {A : Type 0} (e : Refused) (out : Out (Made A)) → Err e ≡ left_of out → out ≡ Err e
-refused_out e (Ok m) is = absurd (refused≢done e m.after is)
-refused_out e (Err r) is = ap (λ (x : Refused). Err x) (sym (err_as e r is))
+refused_out e (Ok m) is = absurd (err≢ok e m.after is)
+refused_out e (Err r) is = ap (λ (x : Refused). Err x) (sym (err_injective e r is))
 
 -- ---- What was done, as what is to be done
 
@@ -87,9 +87,9 @@ module _ {A : Type 0} {count : A → ℕ} {job : Job} where
   ran-refused {e = e} =
       record {
         same = refl;
-        written = λ m p. absurd (refused≢done e m p);
-        counted = λ m p. absurd (refused≢done e m p);
-        fitted = λ m p. absurd (refused≢done e m p);
+        written = λ m p. absurd (err≢ok e m p);
+        counted = λ m p. absurd (err≢ok e m p);
+        fitted = λ m p. absurd (err≢ok e m p);
       }
 
   -- entries and a result that are made outright
@@ -99,9 +99,9 @@ module _ {A : Type 0} {count : A → ℕ} {job : Job} where
   ran-made {m} {before} {after} {k} written counted fitted =
       record {
         same = refl;
-        written = λ n e. written ∙ ap (λ (x : Made A). over before k x.entries) (done_injective m n e);
-        counted = λ n e. subst (λ (x : Made A). count x.after ≡ k + length x.entries) (done_injective m n e) counted;
-        fitted = λ n e. subst (λ (x : Made A). k ≤ job.places → count x.after ≤ job.places) (done_injective m n e) fitted;
+        written = λ n e. written ∙ ap (λ (x : Made A). over before k x.entries) (ok_injective m n e);
+        counted = λ n e. subst (λ (x : Made A). count x.after ≡ k + length x.entries) (ok_injective m n e) counted;
+        fitted = λ n e. subst (λ (x : Made A). k ≤ job.places → count x.after ≤ job.places) (ok_injective m n e) fitted;
       }
 
   -- no entry is made

@@ -22,13 +22,13 @@ use Rattle.aries.specs.Words.{LetterWord, words}
 use Rattle.aries.specs.ByLetter.{Letters, at, by_letter}
 use Rattle.aries.specs.Forms.{kind_of}
 use Rattle.aries.specs.Numbers.{length_of, with_value, lengths_of, word_in_hundredths, letters_in_hundredths, in_hundredths, lengths_fit}
-use Rattle.aries.specs.Reader.{setting_of, reader_at}
-use Rattle.aries.specs.Blocks.{decode_words, decoded, decode}
+use Rattle.aries.specs.Reader.{setting_of, reader_at, given_of}
+use Rattle.aries.specs.Blocks.{listed_as, decode_words, decoded, decode}
 use Rattle.aries.specs.Judging.{Judging}
 use Rattle.aries.specs.Macros.{begin}
 use Rattle.aries.specs.Bodies.{is_close_of, is_own_close}
 use Rattle.aries.specs.Program.{expand}
-use Rattle.aries.specs.Settings.{base_words, base_decoded, base_begin, BaseKept, SettingHolds, PointedAlike}
+use Rattle.aries.specs.Settings.{base_listed, base_words, base_decoded, base_begin, BaseKept, SettingHolds, PointedAlike}
 use Rattle.aries.proofs.CopyBlocks.{reached_ordinary}
 
 -- ---- Words in hundredths
@@ -74,7 +74,11 @@ others-alike number h = go (eq_z number (pos 0)) refl
 
 words-written : (given : Given) (ws : List LetterWord) → decode_words (reader_at Hundredths given) ws ≡ base_words given ws
 unfolding decode_words lengths_fit
-words-written given ws = rw (hundredths-written (kind_of (by_letter ws)) (by_letter ws).letters)
+words-written given ws = go (kind_of (by_letter ws))
+  where
+    go : (o : Option Kind) → listed_as (reader_at Hundredths given) ws o ≡ base_listed given ws o
+    go None = refl
+    go (Some k) = rw (hundredths-written k (by_letter ws).letters)
 
 -- a line at setting 1
 decoded-written : (given : Given) (l : List ℕ) → decode (reader_at Hundredths given) l ≡ base_decoded given (words l)
@@ -88,7 +92,7 @@ decoded-written given l = go (words l)
 begins-written :
     (j : Judging) (f : Frame) (line : ℕ) (l : List ℕ) (g : Progress) → f.job.setting ≡ Hundredths → begin j f line l g ≡ base_begin j line l g
 unfolding begin
-begins-written j f line l g e = rw (e, decoded-written g.state.given l)
+begins-written j f line l g e = rw (e, decoded-written (given_of g.state) l)
 
 pub base_kept : BaseKept
 unfolding expand is_own_close

@@ -1,16 +1,14 @@
 -- Past 1, what is refused has a number from 2 to 18 and a line of the text, and what is done has hits with tools from 1 to 99: one
 -- law a definition, from an entry up to the copies of a part, where all that is stored lies within the lines of the text and the
--- tool that is found is at most 99.
-use Rattle.std.specs.Prelude.{Err, None, Ok, Option, Some}
+-- tool that is found, if there is one, is from 1 to 99.
+use Rattle.std.specs.Prelude.{Err, IfSome, None, Ok, Option, Some}
 use mathlib.Core.Path.{◌≡◌, refl}
 use mathlib.Core.Bool.{Bool, true, false, cond, ◌&&◌}
 use mathlib.Core.List.{List, [], ◌∷◌, ◌++◌}
 use Rattle.std.specs.Prelude.{None, Some}
 use Prim.Native.Nat.{ℕ, zero, suc, ◌+◌, ◌-◌, ◌≤◌}
 use native.Mathlib.Omega.{arith}
-use lib.Dec.{ltb}
 use lib.ListN.{length, get_or}
-use borrow.Author.Tests.{ltb-true}
 use Rattle.signed.proofs.Tests.{and_right}
 use Rattle.aries.specs.declared.refusal.Refused.{Refused}
 use Rattle.aries.specs.declared.refusal.Refusal.{Refusal}
@@ -41,8 +39,8 @@ use Rattle.aries.specs.Reader.{reader_of}
 use Rattle.aries.specs.ByLetter.{Letters, by_letter}
 use Rattle.aries.specs.declared.word.Words.{Words}
 use Rattle.aries.specs.Forms.{in_places, kind_of, is_listed}
-use Rattle.aries.specs.Numbers.{last_tool, in_hundredths, lengths_fit, is_ranged}
-use Rattle.aries.specs.Blocks.{block_of, instruction_of, decode_words, decoded, decode}
+use Rattle.aries.specs.Numbers.{in_hundredths, lengths_fit, is_ranged}
+use Rattle.aries.specs.Blocks.{block_of, instruction_of, listed_as, decode_words, decoded, decode}
 use Rattle.aries.specs.declared.entry.Entry.{Entry}
 use Rattle.aries.specs.Entries.{hits_in, Made, no_entry, adding, and_then, map_after}
 use Rattle.aries.specs.Judging.{Judging, room, judged, near}
@@ -55,7 +53,7 @@ use Rattle.aries.specs.Setup.{ordinary_frame, frame_at}
 use Rattle.aries.specs.Layouts.{copy_start, copy, copy_all, copy_count, copy_place, part_of, copy_over, copy_part}
 use Rattle.aries.specs.Tools.{AllNamed}
 use Rattle.aries.proofs.OneTool.{ending_tool}
-use Rattle.aries.proofs.ToolWords.{DirectFits, BlockFits, words_fit}
+use Rattle.aries.proofs.ToolWords.{IsTool, DirectFits, BlockFits, words_fit}
 
 -- ---- What is refused, and what is done
 
@@ -96,28 +94,20 @@ pub record Sound {A : Type 0} (last : ℕ) (P : A → Type 0) (x : Out (Made A))
 abbrev pub Any : {A : Type 0} → A → Type 0
 Any a = Unit {0}
 
--- the property of what is there
-abbrev pub Each : {A : Type 0} → (A → Type 0) → Option A → Type 0
-Each P None = Unit {0}
-Each P (Some a) = P a
-
 -- ---- The tool
 
--- the tool that is chosen is at most 99; 0 stands for none
+-- the tool that is chosen is from 1 to 99, if one is
 abbrev pub ToolFits : Progress → Type 0
-ToolFits g = g.state.tool ≤ last_tool
+ToolFits g = IfSome g.state.tool IsTool
 
 -- what is sound from there on, and leaves it so
 abbrev pub SoundFrom : ℕ → (Progress → Out (Made Progress)) → Type 0
 SoundFrom last step = (g : Progress) → ToolFits g → Sound last ToolFits (step g)
 
--- a T of at most 99 may be chosen
-choosing-fits : (g : Progress) (t : ℕ) → ToolFits g → t ≤ last_tool → ToolFits (with_state g (choosing g.state t))
-choosing-fits g t fits own = go (ltb 0 t)
-  where
-    go : (written : Bool) → cond written t g.state.tool ≤ last_tool
-    go true = own
-    go false = fits
+-- a T from 1 to 99 may be chosen
+choosing-fits : (g : Progress) (t : Option ℕ) → ToolFits g → IfSome t IsTool → ToolFits (with_state g (choosing g.state t))
+choosing-fits g None fits own = fits
+choosing-fits g (Some t) fits own = own
 
 -- no pattern changes it as it ends
 ending-fits : (p : Pattern) (start : Point) (g : Progress) → ToolFits g → ToolFits (ending p start g)
@@ -135,7 +125,7 @@ pub record BodyOf (last : ℕ) (b : Body) : Type 0 where
   pub to : b.line + length (lines b.bytes) ≤ suc last
 
 abbrev pub BodiesOf : ℕ → Bodies → Type 0
-BodiesOf last bodies = (n : ℕ) → Each (BodyOf last) (bodies n)
+BodiesOf last bodies = (n : ℕ) → IfSome (bodies n) (BodyOf last)
 
 -- calls from its lines
 abbrev pub CallsOf : ℕ → Calls → Type 0
@@ -148,9 +138,9 @@ module _ {last : ℕ} where
   sound_refused n h = record { answered = (n, h) }
 
   -- no entry is made
-  pub sound_done : {A : Type 0} {P : A → Type 0} {a : A} → P a → Sound last P (no_entry a)
+  pub sound_ok : {A : Type 0} {P : A → Type 0} {a : A} → P a → Sound last P (no_entry a)
   unfolding AllNamed hits_in
-  sound_done h = record { answered = (h, tt) }
+  sound_ok h = record { answered = (h, tt) }
 
   pub sound_bind :
       {A B : Type 0} {P : A → Type 0} {Q : B → Type 0} (x : Out A) (f : A → Out (Made B)) → Proper last P x
@@ -172,7 +162,7 @@ module _ {last : ℕ} where
 
   pub sound_given :
       {A B : Type 0} (P : A → Type 0) {Q : B → Type 0} (o : Option A) (refusal : Refusal) {line : ℕ} {k : A → Out (Made B)} → is_number refusal ≡ true
-      → LineOf last line → Each P o → ((a : A) → P a → Sound last Q (k a)) → Sound last Q (◌>>=◌ (given o refusal line) k)
+      → LineOf last line → IfSome o P → ((a : A) → P a → Sound last Q (k a)) → Sound last Q (◌>>=◌ (given o refusal line) k)
   sound_given P None refusal n h s rest = sound_refused n h
   sound_given P (Some a) refusal n h s rest = rest a s
 
@@ -203,24 +193,24 @@ module _ {last : ℕ} where
     punch_sound : (p : Point) → SoundFrom last (punch j f line p)
     unfolding punch AllNamed hits_in
     punch_sound p g fits =
-        sound_passed (ltb 0 g.state.tool) NoTool refl h λ chosen.
+        sound_given IsTool g.state.tool NoTool refl h fits λ tool is.
         sound_need (judged j.bounds (near (seen f p))) TooFar refl h
         (sound_need (judged j.bounds (in_range f (seen f p))) OutOfRange refl h
-        (enter_sound (hit_of g.state (seen f p)) (ltb-true 0 g.state.tool chosen, fits, tt) (with_state g (moved_to g.state p)) fits))
+        (enter_sound (hit_of tool g.state (seen f p)) (is.0, is.1, tt) (with_state g (moved_to g.state p)) fits))
 
-    move_sound : (a : Axes) (t : ℕ) → t ≤ last_tool → SoundFrom last (move j f line a t)
+    move_sound : (a : Axes) (t : Option ℕ) → IfSome t IsTool → SoundFrom last (move j f line a t)
     unfolding move
     move_sound a t own g fits =
         sound_need (judged j.bounds (near (seen f (target f g.state a)))) TooFar refl h
-        (sound_need (judged j.bounds (in_range f (seen f (target f g.state a)))) OutOfRange refl h (sound_done (choosing-fits g t fits own)))
+        (sound_need (judged j.bounds (in_range f (seen f (target f g.state a)))) OutOfRange refl h (sound_ok (choosing-fits g t fits own)))
 
     set_pattern_origin_sound : (a : Axes) → SoundFrom last (set_pattern_origin j f line a)
     unfolding set_pattern_origin
-    set_pattern_origin_sound a g fits = sound_need (judged j.bounds (near (target f g.state a))) TooFar refl h (sound_done fits)
+    set_pattern_origin_sound a g fits = sound_need (judged j.bounds (near (target f g.state a))) TooFar refl h (sound_ok fits)
 
     punches_sound : (p : Pattern) (start : Point) (n k : ℕ) → SoundFrom last (punches j f line p start n k)
     unfolding punches
-    punches_sound p start zero k g fits = sound_done fits
+    punches_sound p start zero k g fits = sound_ok fits
     punches_sound p start (suc n) k g fits =
         sound_then (punch j f line (start ⊕ hit_offset p k) g) _ (punch_sound (start ⊕ hit_offset p k) g fits) (punches_sound p start n (suc k))
 
@@ -237,7 +227,7 @@ module _ {last : ℕ} where
 
     carry_direct_sound : (d : Direct) → DirectFits d → SoundFrom last (carry_direct j f line d)
     unfolding carry_direct position run_pattern recall AllNamed hits_in
-    carry_direct_sound Lone own g fits = sound_done fits
+    carry_direct_sound Lone own g fits = sound_ok fits
     carry_direct_sound (Punch a t) own g fits =
         punch_sound (target f g.state a) (with_state g (dropping (choosing g.state t))) (choosing-fits g t fits own)
     carry_direct_sound (Move a t) own g fits = move_sound a t own g fits
@@ -245,8 +235,8 @@ module _ {last : ℕ} where
     carry_direct_sound (RunPattern p t a) own g fits =
         pattern_sound p (with_state g (remembering (choosing g.state t) a p)) (choosing-fits g t fits own)
     carry_direct_sound (Recall n) own g fits = recalled_sound (get_or g.state.memories (n - 1) None) g fits
-    carry_direct_sound (Nibble b) own g fits = sound_done fits
-    carry_direct_sound Idle own g fits = sound_done fits
+    carry_direct_sound (Nibble b) own g fits = sound_ok fits
+    carry_direct_sound Idle own g fits = sound_ok fits
     carry_direct_sound (Stop optional) own g fits = enter_sound (Entry.Stop optional) tt g fits
 
   -- ---- A line begins
@@ -257,27 +247,28 @@ module _ {last : ℕ} where
       → Proper last (λ i. BlockFits i.block) (in_line line (decoded r o))
   unfolding decode_words
   decoded_proper r line h None = record { answered = (refl, h) }
-  decoded_proper r line h (Some ws) =
-      go (in_places ws && is_listed r.given w k) (lengths_fit s k w.letters && is_ranged m k) (λ e. words_fit s k w.letters (and_right (lengths_fit s k w.letters) _ e))
+  decoded_proper r line h (Some ws) = of_kind (kind_of w)
     where
       w : Words
       w = by_letter ws
 
-      k : Kind
-      k = kind_of w
-
       s : Setting
       s = r.setting
 
-      m : Letters
-      m = in_hundredths s k w.letters
+      of_kind : (o : Option Kind) → Proper last (λ i. BlockFits i.block) (in_line line (listed_as r ws o))
+      of_kind None = record { answered = (refl, h) }
+      of_kind (Some k) =
+          go (in_places ws && is_listed r.given w k) (lengths_fit s k w.letters && is_ranged m k) (λ e. words_fit s k w.letters (and_right (lengths_fit s k w.letters) _ e))
+        where
+          m : Letters
+          m = in_hundredths s k w.letters
 
-      go :
-          (listed ranged : Bool) → (ranged ≡ true → BlockFits (block_of m k))
-          → Proper last (λ i. BlockFits i.block) (in_line line (cond listed (cond ranged (Ok (instruction_of k w.measure m)) (Err WrongNumber)) (Err NotListed)))
-      go false ranged own = record { answered = (refl, h) }
-      go true false own = record { answered = (refl, h) }
-      go true true own = record { answered = own refl }
+          go :
+              (listed ranged : Bool) → (ranged ≡ true → BlockFits (block_of m k))
+              → Proper last (λ i. BlockFits i.block) (in_line line (cond listed (cond ranged (Ok (instruction_of k w.measure m)) (Err WrongNumber)) (Err NotListed)))
+          go false ranged own = record { answered = (refl, h) }
+          go true false own = record { answered = (refl, h) }
+          go true true own = record { answered = own refl }
 
   pub begin_proper :
       (j : Judging) (f : Frame) (line : ℕ) → LineOf last line → (l : List ℕ) (g : Progress) → ToolFits g → Proper last BegunFits (begin j f line l g)
@@ -307,13 +298,13 @@ module _ {last : ℕ} where
 
     run_line_sound : (line : ℕ) → LineOf last line → (l : List ℕ) → SoundFrom last (run_line j calls f line l)
     unfolding run_block
-    run_line_sound line h [] g fits = sound_done fits
+    run_line_sound line h [] g fits = sound_ok fits
     run_line_sound line h (c ∷ l) g fits =
         sound_bind (begin j f line (c ∷ l) g) _ (begin_proper j f line h (c ∷ l) g fits) (λ b k. carry_sound line h b.block k.0 b.progress k.1)
 
     run_lines_sound : (line : ℕ) (ls : List (List ℕ)) → 1 ≤ line → line + length ls ≤ suc last → SoundFrom last (run_lines j calls f line ls)
     unfolding run_lines
-    run_lines_sound line [] a b g fits = sound_done fits
+    run_lines_sound line [] a b g fits = sound_ok fits
     run_lines_sound line (l ∷ ls) a b g fits =
         sound_then (run_line j calls f line l g) _ (run_line_sound line (record { from = a; to = omega arith }) l g fits)
         (run_lines_sound (suc line) ls (omega arith) (omega arith))
@@ -335,10 +326,10 @@ module _ {last : ℕ} where
     module _ (line : ℕ) (h : LineOf last line) where
       -- each begins with the tool that the run found
       copy_all_sound :
-          (b : Body) → BodyOf last b → (f : Frame) (found : State) → found.tool ≤ last_tool → (place : ℕ → Point) (n m : ℕ)
+          (b : Body) → BodyOf last b → (f : Frame) (found : State) → IfSome found.tool IsTool → (place : ℕ → Point) (n m : ℕ)
           → SoundFrom last (copy_all j (part_of j bodies b) f line found place n m)
       unfolding copy_all copy
-      copy_all_sound b k f found own place zero m g fits = sound_done fits
+      copy_all_sound b k f found own place zero m g fits = sound_ok fits
       copy_all_sound b k f found own place (suc n) m g fits =
           sound_then (copy j (part_of j bodies b) f line found (place m) g) _
           (sound_need (judged j.bounds (near (place m))) TooFar refl h

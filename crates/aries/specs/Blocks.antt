@@ -8,7 +8,7 @@ use Rattle.aries.specs.declared.refusal.Refusal.TheVariants.{WordForm, NotListed
 use Rattle.aries.specs.declared.point.Point.{Point}
 use Rattle.aries.specs.declared.word.Word.{Word}
 use Rattle.aries.specs.declared.block.Kind.{Kind}
-use Rattle.aries.specs.declared.block.Kind.TheVariants.{G26, G28, G29, G36, G37, G50, G70, G72, G75, G76, G92, G93, G98, Position, Lone, LetterM, LetterB, LetterU, LetterV, LetterW, Unknown, G66, G73}
+use Rattle.aries.specs.declared.block.Kind.TheVariants.{G26, G28, G29, G36, G37, G50, G70, G72, G75, G76, G92, G93, G98, Position, Lone, LetterM, LetterB, LetterU, LetterV, LetterW, G66, G73}
 use Rattle.aries.specs.declared.block.Axes.{Axes}
 use Rattle.aries.specs.declared.block.Steps.{Steps}
 use Rattle.aries.specs.declared.block.Pattern.{Pattern}
@@ -43,13 +43,13 @@ written w letter = option_map (λ (v : Word). v.value) (at w letter)
 abbrev pub number : Letters → ℕ → ℤ
 number w letter = unwrap_or (written w letter) (pos 0)
 
--- the size of a length of G98, which 6 has found not negative
-abbrev pub size : Letters → ℕ → ℕ
-size w letter = nat_abs (number w letter)
-
--- a whole number; 0 if it is absent (6 has refused a T or an A that is written with 0)
+-- a whole number, and a length of G98, which 6 has found not negative; 0 if it is absent
 abbrev pub count : Letters → ℕ → ℕ
 count w letter = nat_abs (number w letter)
+
+-- a whole number, where it is written: the tool of T and the memory of A
+abbrev pub count_written : Letters → ℕ → Option ℕ
+count_written w letter = option_map nat_abs (written w letter)
 
 -- X and Y, where they are written
 abbrev pub axes : Letters → Axes
@@ -68,7 +68,7 @@ abbrev pub layout : Letters → Layout
 layout w =
     record {
       reference = point_of_xy w;
-      pitch = record { x = size w letter_i + size w letter_d; y = size w letter_j + size w letter_d };
+      pitch = record { x = count w letter_i + count w letter_d; y = count w letter_j + count w letter_d };
       steps = steps w;
     }
 
@@ -113,13 +113,13 @@ shear_pattern w = pattern.Shear (turn (number w letter_j)) (shear w)
 
 -- a pattern with its T and A
 abbrev pub pattern_block : Letters → Pattern → Block
-pattern_block w p = Block.Direct (direct.RunPattern p (count w letter_t) (count w letter_a))
+pattern_block w p = Block.Direct (direct.RunPattern p (count_written w letter_t) (count_written w letter_a))
 
 -- an M code (5 has refused a number that is none)
 abbrev pub m_block : ℕ → Block
 m_block n = Block.Direct (lookup m_codes n direct.Idle)
 
--- the block of a kind (5 has refused the unknown kind)
+-- the block of a kind
 unfoldable pub block_of : Letters → Kind → Block
 unfolding shear_pattern
 block_of w G26 = pattern_block w (circle_pattern w)
@@ -129,7 +129,7 @@ block_of w G36 = pattern_block w (grid_pattern false w)
 block_of w G37 = pattern_block w (grid_pattern true w)
 block_of w G66 = pattern_block w (shear_pattern w)
 block_of w G50 = Block.Outside outside.End
-block_of w G70 = Block.Direct (direct.Move (axes w) (count w letter_t))
+block_of w G70 = Block.Direct (direct.Move (axes w) (count_written w letter_t))
 block_of w G72 = Block.Direct (direct.PatternOrigin (axes w))
 block_of w G73 = Block.Call (call.Mirrored (mirroring w))
 block_of w G75 = Block.Outside (outside.Copy (copies false w))
@@ -137,14 +137,13 @@ block_of w G76 = Block.Outside (outside.Copy (copies true w))
 block_of w G92 = Block.Outside (outside.Machine (point_of_xy w))
 block_of w G93 = Block.Outside (outside.Offset (axes w))
 block_of w G98 = Block.Outside (outside.Layout (layout w))
-block_of w Position = Block.Direct (direct.Punch (axes w) (count w letter_t))
+block_of w Position = Block.Direct (direct.Punch (axes w) (count_written w letter_t))
 block_of w Lone = Block.Direct direct.Lone
 block_of w LetterM = m_block (count w letter_m)
 block_of w LetterB = Block.Direct (direct.Recall (count w letter_b))
 block_of w LetterU = Block.Outside (outside.Open (count w letter_u))
 block_of w LetterV = Block.Outside (outside.Close (count w letter_v))
 block_of w LetterW = Block.Call (call.Plain (count w letter_w))
-block_of w Unknown = Block.Direct direct.Idle
 
 -- what a block of a kind asks for, with its G90 or G91, from words in hundredths
 abbrev pub instruction_of : Kind → Option Measure → Letters → Instruction
@@ -156,13 +155,17 @@ ranged s k m w =
     let h : Letters = in_hundredths s k w in
     cond (lengths_fit s k w && is_ranged h k) (Ok (instruction_of k m h)) (Err WrongNumber)
 
+-- the instruction of words as those of a kind, if there is one: 5, then 6
+abbrev pub listed_as : Reader → List LetterWord → Option Kind → Result Instruction Refusal
+listed_as r ws None = Err NotListed
+listed_as r ws (Some k) =
+    let w : Words = by_letter ws in
+    cond (in_places ws && is_listed r.given w k) (ranged r.setting k w.measure w.letters) (Err NotListed)
+
 -- the instruction of a block from its words: 5, then 6
 unfoldable pub decode_words : Reader → List LetterWord → Result Instruction Refusal
 unfolding by_letter in_places kind_of is_listed in_hundredths lengths_fit is_ranged block_of
-decode_words r ws =
-    let w : Words = by_letter ws in
-    let k : Kind = kind_of w in
-    cond (in_places ws && is_listed r.given w k) (ranged r.setting k w.measure w.letters) (Err NotListed)
+decode_words r ws = listed_as r ws (kind_of (by_letter ws))
 
 -- 4, and then the words
 abbrev pub decoded : Reader → Option (List LetterWord) → Result Instruction Refusal

@@ -31,7 +31,7 @@ lookup rows n other = unwrap_or (row rows n) other
 abbrev pub pattern_codes : List (ℕ × Kind)
 pattern_codes = (26, G26) ∷ (28, G28) ∷ (29, G29) ∷ (36, G36) ∷ (37, G37) ∷ (66, G66) ∷ []
 
--- the codes of blocks; every other one is unknown
+-- the codes of blocks
 abbrev pub codes : List (ℕ × Kind)
 codes =
     pattern_codes

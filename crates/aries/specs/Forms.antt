@@ -3,7 +3,7 @@
 use Rattle.std.specs.Prelude.{Bool, true, false, not, cond, ◌&&◌, ◌||◌, List, [], ◌∷◌, ◌++◌, ℕ, eqb, None, Option, Some, is_some, is_none}
 use Prim.Native.String.{String}
 use Rattle.aries.specs.declared.block.Kind.{Kind}
-use Rattle.aries.specs.declared.block.Kind.TheVariants.{G26, G28, G29, G36, G37, G50, G70, G72, G75, G76, G92, G93, G98, Position, Lone, LetterM, LetterB, LetterU, LetterV, LetterW, Unknown, G66, G73}
+use Rattle.aries.specs.declared.block.Kind.TheVariants.{G26, G28, G29, G36, G37, G50, G70, G72, G75, G76, G92, G93, G98, Position, Lone, LetterM, LetterB, LetterU, LetterV, LetterW, G66, G73}
 use Rattle.aries.specs.declared.block.Measure.{Measure}
 use Rattle.aries.specs.declared.block.Measure.TheVariants.{Absolute, Incremental}
 use Rattle.aries.specs.declared.word.Word.{Word}
@@ -12,7 +12,7 @@ use Rattle.aries.specs.Letters.{letter_a, letter_b, letter_g, letter_m, letter_n
 use Rattle.aries.specs.Test.{among, every, any_of, is_empty}
 use Rattle.aries.specs.Text.{bytes}
 use Rattle.aries.specs.Words.{LetterWord}
-use Rattle.aries.specs.ByLetter.{has_row, lookup, pattern_codes, codes, m_codes, Letters, at, has, absent_or, is_plain, code_of, is_measure, by_letter}
+use Rattle.aries.specs.ByLetter.{row, has_row, pattern_codes, codes, m_codes, Letters, at, has, absent_or, is_plain, code_of, is_measure, by_letter}
 use Rattle.aries.specs.declared.word.Words.{Words}
 
 -- ---- Places (refusal 5): each rule is about a word and the words before it
@@ -74,9 +74,9 @@ plain_kind w =
     (cond (has w letter_w) LetterW
     (cond (has w letter_x || has w letter_y) Position Lone)))))
 
--- the kind of a block: by its code, or by its letters where it has none
-unfoldable pub kind_of : Words → Kind
-kind_of w = elim w.code [ None ↦ plain_kind w.letters | Some code ↦ lookup codes code Unknown ]
+-- the kind of a block, if it has one: by its code, or by its letters where it has none
+unfoldable pub kind_of : Words → Option Kind
+kind_of w = elim w.code [ None ↦ Some (plain_kind w.letters) | Some code ↦ row codes code ]
 
 -- which of G90 and G91 may stand in a block, or has to
 pub data Beside : Type 0 where
@@ -120,7 +120,6 @@ form_of LetterB = form "B" "" "" neither
 form_of LetterU = form "U" "" "" neither
 form_of LetterV = form "V" "" "" neither
 form_of LetterW = form "W" "" "" neither
-form_of Unknown = form "" "" "" neither
 
 -- all letters of a form
 abbrev pub listed : Form → List ℕ
@@ -191,7 +190,6 @@ kind_fits given w LetterB = true
 kind_fits given w LetterU = not (has w letter_n)
 kind_fits given w LetterV = not (has w letter_n)
 kind_fits given w LetterW = true
-kind_fits given w Unknown = false
 
 -- a block has the letters of its kind; which of X and Y a G73 has given before counts for G73 alone
 unfoldable pub is_listed : Given → Words → Kind → Bool

@@ -1,6 +1,6 @@
 -- Layouts: the places of G98 and the order in which G75 and G76 copy a part to them. (Document 01, "Macros and layouts"
 -- and the paragraph on demand 3; refusals 10, 13 and 15.)
-use Rattle.std.specs.Prelude.{Bool, true, false, cond, ◌||◌, ℕ, zero, suc, ◌-◌, ◌*◌, eqb, pos, Option, None, Some}
+use Rattle.std.specs.Prelude.{Bool, true, false, ◌||◌, ℕ, zero, suc, ◌-◌, ◌*◌, eqb, pos, Option, None, Some}
 use Rattle.aries.specs.declared.refusal.Refusal.TheVariants.{NotStored, NoLayout, TooFar}
 use Rattle.aries.specs.declared.point.Point.{Point}
 use Rattle.aries.specs.declared.block.Layout.{Layout}
@@ -12,7 +12,7 @@ use Rattle.aries.specs.declared.state.Progress.{Progress}
 use Rattle.aries.specs.Outcome.{Out, refused, ◌>>=◌, need, given}
 use Rattle.aries.specs.Entries.{Made, no_entry, and_then}
 use Rattle.aries.specs.Judging.{Judging, judged, near}
-use Rattle.aries.specs.Lanes.{lane, along}
+use Rattle.aries.specs.Lanes.{places, column_of, row_of}
 use Rattle.aries.specs.Moves.{point_at, ◌⊕◌, standing_at, with_state}
 use Rattle.aries.specs.Macros.{Body, Bodies, most_calls, run_body}
 use Rattle.aries.specs.Setup.{ordinary_frame, frame_at}
@@ -21,15 +21,7 @@ use Rattle.aries.specs.Setup.{ordinary_frame, frame_at}
 
 -- P + 1 by K + 1 copies
 abbrev pub copy_count : Layout → ℕ
-copy_count l = suc l.steps.x * suc l.steps.y
-
--- the column of copy m, in pitches from the first place: c of the paragraph on demand 3
-abbrev pub column_of : Bool → Layout → ℕ → ℕ
-column_of vertical l m = cond vertical (lane l.steps.y m) (along l.steps.x m)
-
--- its row: r
-abbrev pub row_of : Bool → Layout → ℕ → ℕ
-row_of vertical l m = cond vertical (along l.steps.y m) (lane l.steps.x m)
+copy_count l = places l.steps
 
 -- Q names the first place: 1 lower left, 2 lower right, 3 upper left, 4 upper right
 abbrev pub from_right : ℕ → Bool
@@ -49,9 +41,9 @@ place_at origin l q c r =
     origin
     ⊕ point_at (pos (facing (from_right q) l.steps.x c * l.pitch.x)) (pos (facing (from_top q) l.steps.y r * l.pitch.y))
 
--- the place of copy m
+-- the place of copy m, by its column and row, which are c and r of the paragraph on demand 3
 unfoldable pub copy_place : Point → Layout → Copies → ℕ → Point
-copy_place origin l c m = place_at origin l c.corner (column_of c.vertical l m) (row_of c.vertical l m)
+copy_place origin l c m = place_at origin l c.corner (column_of c.vertical l.steps m) (row_of c.vertical l.steps m)
 
 -- ---- Copies
 

@@ -1,6 +1,7 @@
 -- Macros: the bodies that are stored, and running them. (Document 01, "Macros and layouts"; document 02, §5; refusals 3 to 7, 10
 -- and 11.)
 use Rattle.std.specs.Prelude.{Bool, not, cond, ◌||◌, List, [], ◌∷◌, ℕ, zero, suc, ◌+◌, ◌-◌, get_or, set, take, drop, replicate, None, Ok, Option, Some}
+use Rattle.aries.specs.declared.macros.Start.{Start}
 use Rattle.aries.specs.declared.macros.StoredBody.{StoredBody}
 use Rattle.aries.specs.declared.refusal.Refusal.TheVariants.{BlocksSpent, OutOfPlace, NotStored, TooDeep}
 use Rattle.aries.specs.declared.block.Direct.{Direct}
@@ -22,18 +23,23 @@ use Rattle.aries.specs.Blocks.{decode}
 use Rattle.aries.specs.Entries.{Made, no_entry, and_then, map_after}
 use Rattle.aries.specs.Judging.{Judging, room}
 use Rattle.aries.specs.Mirrors.{mirrored}
-use Rattle.aries.specs.Moves.{measuring, dropping, standing_at, giving, in_mode, with_state, position, move, set_pattern_origin, stop}
+use Rattle.aries.specs.Moves.{measuring, dropping, standing_at, giving, mirror_spans, in_mode, with_state, position, move, set_pattern_origin, stop}
 use Rattle.aries.specs.Patterns.{run_pattern, recall}
 
 -- ---- Bodies
 
 -- Each number holds at most one body; the list counts from 0, which no macro has.
 abbrev pub no_macros : Macros
-no_macros = record { bodies = replicate (suc last_macro) None }
+no_macros = record { starts = replicate (suc last_macro) None; ends = replicate (suc last_macro) 0 }
+
+-- a body from a start, if there is one, to an end
+abbrev pub body_between : Option Start → ℕ → Option StoredBody
+body_between None end = None
+body_between (Some s) end = Some (record { start = s.offset; end = end; line = s.line })
 
 -- where the body of a macro lies, and the line of its start, if it is stored
 abbrev pub found_in : Macros → ℕ → Option StoredBody
-found_in m n = get_or m.bodies n None
+found_in m n = body_between (get_or m.starts n None) (get_or m.ends n 0)
 
 -- a macro's body, the part of the program text between its U line and its V line, and the number of its first line
 pub record Body : Type 0 where
@@ -56,19 +62,28 @@ unfoldable pub bodies_of : List ℕ → Macros → Bodies
 unfolding part
 bodies_of text m n = body_at text (found_in m n)
 
+-- where a stored body starts, and its line
+abbrev pub body_start : StoredBody → Start
+body_start b = record { offset = b.start; line = b.line }
+
 -- storing again replaces
 abbrev pub storing : Macros → ℕ → StoredBody → Macros
-storing m n b = record { bodies = set m.bodies n (Some b) }
+storing m n b = record { starts = set m.starts n (Some (body_start b)); ends = set m.ends n b.end }
 
 -- Body characters are its non-space bytes and line feeds: all of it, the text being without spaces.
-abbrev pub sizes : List (Option StoredBody) → ℕ
-sizes [] = 0
-sizes (None ∷ bs) = sizes bs
-sizes (Some b ∷ bs) = (b.end - b.start) + sizes bs
+abbrev pub stored_size : Option StoredBody → ℕ
+stored_size None = 0
+stored_size (Some b) = b.end - b.start
+
+-- those of the bodies from these starts to these ends
+abbrev pub sizes : List (Option Start) → List ℕ → ℕ
+sizes [] es = 0
+sizes (s ∷ ss) [] = 0
+sizes (s ∷ ss) (e ∷ es) = stored_size (body_between s e) + sizes ss es
 
 -- the characters of all bodies stored
 unfoldable pub characters : Macros → ℕ
-characters m = sizes m.bodies
+characters m = sizes m.starts m.ends
 
 -- ---- Blocks that may stand in a body
 
@@ -100,7 +115,7 @@ at_origin f g = with_state g (standing_at g.state f.origin)
 -- macro leaves it.
 abbrev pub call_mirrored : Calls → Frame → ℕ → ℕ → ℕ → Progress → Out (Made Progress)
 call_mirrored call f line way part g =
-    map_after (at_origin f) (call (mirrored way g.state.spans f) part line (at_origin f g))
+    map_after (at_origin f) (call (mirrored way (mirror_spans g.state) f) part line (at_origin f g))
 
 -- a block that calls a macro: W, with the state as it is, or G73
 abbrev pub carry_call : Calls → Frame → ℕ → Call → Progress → Out (Made Progress)

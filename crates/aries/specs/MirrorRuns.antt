@@ -10,7 +10,7 @@ use Rattle.aries.specs.Outcome.{Out}
 use Rattle.aries.specs.Entries.{placed_by, Made}
 use Rattle.aries.specs.Judging.{limits}
 use Rattle.aries.specs.Mirrors.{no_mirror, reflected, seen}
-use Rattle.aries.specs.Moves.{giving}
+use Rattle.aries.specs.Moves.{giving, mirror_spans}
 use Rattle.aries.specs.Macros.{Bodies, Calls, call_mirrored, carry_call, call}
 
 -- ---- Two mirrors with one a and b
@@ -73,7 +73,7 @@ run_by q c =
 
 -- X turned into a − X and Y into b − Y, as Q says, measured from the origin
 abbrev pub turned_by : ℕ → MirrorRun → Point → Point
-turned_by q c p = reflected q (giving c.before.state c.axes).spans c.frame.origin p
+turned_by q c p = reflected q (mirror_spans (giving c.before.state c.axes)) c.frame.origin p
 
 -- the same, taken before the mirrors that were open already
 abbrev pub image_by : ℕ → MirrorRun → Point → Point

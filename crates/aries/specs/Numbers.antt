@@ -7,7 +7,7 @@ use Rattle.aries.specs.declared.reader.Setting.{Setting}
 use Rattle.aries.specs.declared.reader.Setting.TheVariants.{Hundredths, Millimetres}
 use Rattle.aries.specs.declared.word.Word.{Word}
 use Rattle.aries.specs.declared.block.Kind.{Kind}
-use Rattle.aries.specs.declared.block.Kind.TheVariants.{G26, G28, G29, G36, G37, G50, G70, G72, G75, G76, G92, G93, G98, Position, Lone, LetterM, LetterB, LetterU, LetterV, LetterW, Unknown, G66, G73}
+use Rattle.aries.specs.declared.block.Kind.TheVariants.{G26, G28, G29, G36, G37, G50, G70, G72, G75, G76, G92, G93, G98, Position, Lone, LetterM, LetterB, LetterU, LetterV, LetterW, G66, G73}
 use Rattle.aries.specs.Letters.{letter_a, letter_b, letter_d, letter_i, letter_j, letter_k, letter_n, letter_p, letter_q, letter_t, letter_u, letter_v, letter_w, letter_x, letter_y, index_of}
 use Rattle.aries.specs.Test.{within, every}
 use Rattle.aries.specs.Text.{bytes}
@@ -58,7 +58,6 @@ lengths_of LetterB = ""
 lengths_of LetterU = ""
 lengths_of LetterV = ""
 lengths_of LetterW = ""
-lengths_of Unknown = ""
 
 -- words by letter, with these letters in hundredths
 abbrev pub letters_in_hundredths : Setting → Letters → List ℕ → Letters
@@ -159,7 +158,6 @@ ranges_of LetterB = (letter_b, memory_number) ∷ []
 ranges_of LetterU = (letter_u, macro_number) ∷ []
 ranges_of LetterV = (letter_v, macro_number) ∷ []
 ranges_of LetterW = (letter_w, macro_number) ∷ []
-ranges_of Unknown = []
 
 -- N, T and A have one range each wherever they stand
 abbrev pub common_ranges : List (ℕ × Range)

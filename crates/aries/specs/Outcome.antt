@@ -1,6 +1,8 @@
 -- What carrying something out comes to: a result, or a refusal with its line. Refusals go by their numbers.
 -- A `do` block goes on past each test that passes, so the refusals stand in it in their checking order.
-use Rattle.std.specs.Prelude.{Bool, true, false, ℕ, Option, None, Some, Result, Ok, Err}
+use Rattle.std.specs.Prelude.{Bool, true, false, List, ◌++◌, ℕ, Option, None, Some, Result, Ok, Err}
+use Rattle.std.specs.Fmt.{decimal}
+use Rattle.aries.specs.Text.{bytes}
 use Rattle.aries.specs.declared.refusal.Refusal.{Refusal}
 use Rattle.aries.specs.declared.refusal.Refusal.TheVariants.{TextLength, StrayByte, BlocksSpent, WordForm, NotListed, WrongNumber, OutOfPlace, NoMachine, NotClosed, NotStored, TooDeep, StoreFull, NoLayout, NoTool, TooFar, OutOfRange, ListFull, ShearUnfit}
 use Rattle.aries.specs.declared.refusal.Refused.{Refused}
@@ -25,6 +27,11 @@ refusal_number TooFar = 15
 refusal_number OutOfRange = 16
 refusal_number ListFull = 17
 refusal_number ShearUnfit = 18
+
+-- a refusal with its line, as the program hitlist names it
+unfoldable pub refused_text : Refused → List ℕ
+unfolding bytes
+refused_text e = bytes "REFUSED " ++ (decimal (refusal_number e.refusal) ++ (bytes " LINE " ++ decimal e.line))
 
 abbrev pub Out : Type 0 → Type 0
 Out A = Result A Refused

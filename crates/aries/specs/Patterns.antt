@@ -13,7 +13,7 @@ use Rattle.aries.specs.declared.state.Progress.{Progress}
 use Rattle.aries.specs.Outcome.{Out, refused, ◌>>=◌, need}
 use Rattle.aries.specs.Entries.{Made, no_entry, and_then, map_after}
 use Rattle.aries.specs.Judging.{Judging, judged, is_near}
-use Rattle.aries.specs.Lanes.{lane, along}
+use Rattle.aries.specs.Lanes.{places, column_of, row_of}
 use Rattle.aries.specs.Shear.{is_fit, steps, shear_offset}
 use Rattle.aries.specs.Moves.{point_at, ◌⊕◌, moved_to, dropping, choosing, remembering, with_state, punch}
 
@@ -49,10 +49,7 @@ circle_offset i j clockwise n k = polar i (circle_angle j clockwise n k)
 -- G36 I P J K: P + 1 columns at pitch I, K + 1 rows at pitch J. Place m lies row by row, the first row away from the start,
 -- the next back. G37, vertical, goes column by column.
 abbrev pub grid_offset : Bool → Point → Steps → ℕ → Point
-grid_offset vertical pitch steps m =
-    cond vertical
-    (point_at (pos (lane steps.y m) *ℤ pitch.x) (pos (along steps.y m) *ℤ pitch.y))
-    (point_at (pos (along steps.x m) *ℤ pitch.x) (pos (lane steps.x m) *ℤ pitch.y))
+grid_offset vertical pitch steps m = point_at (pos (column_of vertical steps m) *ℤ pitch.x) (pos (row_of vertical steps m) *ℤ pitch.y)
 
 -- the offset of hit k of a pattern, counted from 0
 unfoldable pub hit_offset : Pattern → ℕ → Point
@@ -69,7 +66,7 @@ unfolding steps
 hit_count (Line i j n) = n
 hit_count (Arc i j p n) = n
 hit_count (Circle i j clockwise n) = n
-hit_count (Grid vertical pitch steps) = suc steps.x * suc steps.y - 1
+hit_count (Grid vertical pitch steps) = places steps - 1
 hit_count (Shear j s) = suc (steps s)
 
 -- 15: k × I at its largest k, or a grid's I × P and J × K, does not pass the limit; G29, G26 and G66 name no such product
@@ -126,7 +123,7 @@ pattern j f line p g = do
   map_after (ending p (start_of g.state)) (punches j f line p (start_of g.state) (hit_count p) 0 (starting g))
 
 -- T chooses the tool, and A stores code and numbers without T before the hits.
-unfoldable pub run_pattern : Judging → Frame → ℕ → Pattern → ℕ → ℕ → Progress → Out (Made Progress)
+unfoldable pub run_pattern : Judging → Frame → ℕ → Pattern → Option ℕ → Option ℕ → Progress → Out (Made Progress)
 unfolding pattern
 run_pattern j f line p t a g = pattern j f line p (with_state g (remembering (choosing g.state t) a p))
 

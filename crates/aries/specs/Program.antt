@@ -31,13 +31,13 @@ use Rattle.aries.specs.Bodies.{Store, with_stored, open_body}
 -- ---- A program under way, changed in one respect
 
 abbrev pub with_progress : Program → Progress → Program
-with_progress p g = record { stage = p.stage; setup = p.setup; macros = p.macros; progress = g }
+with_progress p g = record p { progress = g }
 
 abbrev pub with_setup : Program → Setup → Program
-with_setup p s = record { stage = p.stage; setup = s; macros = p.macros; progress = p.progress }
+with_setup p s = record p { setup = s }
 
 abbrev pub at_stage : Stage → Program → Program
-at_stage t p = record { stage = t; setup = p.setup; macros = p.macros; progress = p.progress }
+at_stage t p = record p { stage = t }
 
 -- At the start nothing is stored.
 abbrev pub fresh_program : Job → Program
@@ -72,10 +72,9 @@ in_place Ended b = false
 -- G92 makes its X, Y the current point.
 abbrev pub start_as : Program → Point → Machine → Program
 start_as p q m =
-    record {
+    record p {
       stage = Running;
       setup = with_machine p.setup m;
-      macros = p.macros;
       progress = with_state p.progress (moved_to p.progress.state q);
     }
 
@@ -92,7 +91,7 @@ settled p out = do
 
 -- after a U line the lines of its body are passed over
 abbrev pub with_store : Program → Store → Program
-with_store p st = record { stage = Storing; setup = p.setup; macros = st.macros; progress = st.progress }
+with_store p st = record p { stage = Storing; macros = st.macros; progress = st.progress }
 
 -- A block that stands only outside bodies. The next line starts at a place of the text, and the lines given follow.
 unfoldable pub carry_outside : Judging → List ℕ → ℕ → ℕ → List (List ℕ) → Outside → Program → Out (Made Program)

@@ -51,6 +51,14 @@ unfoldable pub over : Lent → ℕ → List Entry → Lent
 over l k [] = l
 over l k (e ∷ es) = over (put l k e) (k + 1) es
 
+-- ---- What is left
+
+-- What a function answers that is lent a progress, a program or the like, and what it leaves there: that, or its refusal. After a
+-- refusal the papers leave free what is there.
+abbrev pub leaving : {A B : Type 0} → Out A → B → Out B
+leaving (Ok a) left = Ok left
+leaving (Err e) left = Err e
+
 -- ---- What was done
 
 -- A result with its count of entries, and what is lent before and after, against what the definitions make, from place k on: it

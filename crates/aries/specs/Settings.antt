@@ -20,7 +20,7 @@ use Rattle.aries.specs.ByLetter.{by_letter}
 use Rattle.aries.specs.declared.word.Words.{Words}
 use Rattle.aries.specs.Forms.{in_places, kind_of, is_listed}
 use Rattle.aries.specs.Numbers.{length_of, is_ranged}
-use Rattle.aries.specs.Reader.{reader_at, reader_of}
+use Rattle.aries.specs.Reader.{reader_at, given_of, reader_of}
 use Rattle.aries.specs.Blocks.{instruction_of}
 use Rattle.aries.specs.Judging.{Judging}
 use Rattle.aries.specs.Macros.{may_come, Begun, begun_by, begin}
@@ -31,15 +31,19 @@ use Rattle.aries.specs.CopyBlocks.{Reached}
 
 -- ---- Setting 1
 
--- the words of a block by document 01: 5, then 6, of the numbers as they are written; which letters G73 blocks have given is said
--- beside them
-abbrev pub base_words : Given → List LetterWord → Result Instruction Refusal
-base_words given ws =
+-- words as those of a kind, if there is one, by document 01: 5, then 6, of the numbers as they are written; which letters G73 blocks
+-- have given is said beside them
+abbrev pub base_listed : Given → List LetterWord → Option Kind → Result Instruction Refusal
+base_listed given ws None = Err NotListed
+base_listed given ws (Some k) =
     let w : Words = by_letter ws in
-    let k : Kind = kind_of w in
     cond (in_places ws && is_listed given w k)
     (cond (is_ranged w.letters k) (Ok (instruction_of k w.measure w.letters)) (Err WrongNumber))
     (Err NotListed)
+
+-- the words of a block by document 01
+abbrev pub base_words : Given → List LetterWord → Result Instruction Refusal
+base_words given ws = base_listed given ws (kind_of (by_letter ws))
 
 -- a line by document 01: 4, and then the words
 abbrev pub base_decoded : Given → Option (List LetterWord) → Result Instruction Refusal
@@ -50,7 +54,7 @@ base_decoded given (Some ws) = base_words given ws
 abbrev pub base_begin : Judging → ℕ → List ℕ → Progress → Out Begun
 base_begin j line l g = do
   _ ← need (may_come j l g) BlocksSpent line
-  i ← in_line line (base_decoded g.state.given (words l))
+  i ← in_line line (base_decoded (given_of g.state) (words l))
   Ok (begun_by l g i)
 
 -- At every number but 0 a text means what document 01 says: it means what it does at 1, and there each block begins and

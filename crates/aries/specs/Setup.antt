@@ -20,7 +20,7 @@ abbrev pub fresh_setup : Job → Setup
 fresh_setup job = record { job = job; machine = Aries222; sheet = None; offset = zero_point; origin = zero_point }
 
 abbrev pub with_machine : Setup → Machine → Setup
-with_machine s m = record { job = s.job; machine = m; sheet = s.sheet; offset = s.offset; origin = s.origin }
+with_machine s m = record s { machine = m }
 
 -- ---- Frames: where X and Y are measured from, the range that is judged, and the mirrors that are open
 
@@ -30,7 +30,7 @@ ordinary_frame s = record { job = s.job; machine = s.machine; origin = s.origin;
 
 -- the frame of a copy: its origin is its own place
 abbrev pub frame_at : Frame → Point → Frame
-frame_at f p = record { job = f.job; machine = f.machine; origin = p; mirror = f.mirror }
+frame_at f p = record f { origin = p }
 
 -- ---- G93 and G98: the origin is reference plus offset
 
@@ -41,7 +41,7 @@ reference_of (Some l) = l.reference
 
 -- what G93 leaves with another offset, and G98 with another layout: G98 leaves the offset of G93 in force
 abbrev pub with_origin : Setup → Option Layout → Point → Setup
-with_origin s sheet offset = record { job = s.job; machine = s.machine; sheet = sheet; offset = offset; origin = reference_of sheet ⊕ offset }
+with_origin s sheet offset = record s { sheet = sheet; offset = offset; origin = reference_of sheet ⊕ offset }
 
 -- 15: the origin does not pass the limit, whether or not a block uses it
 unfoldable pub set_origin : Judging → ℕ → Option Layout → Point → Setup → Out Setup

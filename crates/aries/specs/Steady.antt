@@ -13,6 +13,7 @@ use Rattle.aries.specs.declared.state.State.{State}
 use Rattle.aries.specs.Blocks.{decode}
 use Rattle.aries.specs.Judging.{farthest, is_near, near}
 use Rattle.aries.specs.Macros.{most_calls}
+use Rattle.aries.specs.Moves.{mirror_spans}
 
 -- the farthest that 0 is seen from the origin, one mirror a call
 abbrev pub span_limit : ℕ
@@ -33,9 +34,9 @@ pub record AxesNear (a : Axes) : Type 0 where
   pub x : is_near (unwrap_or a.x (pos 0)) ≡ true
   pub y : is_near (unwrap_or a.y (pos 0)) ≡ true
 
--- so are those that G73 blocks have given
+-- so are those that G73 blocks have given, with 0 for one that none has given
 abbrev pub GivenNear : State → Type 0
-GivenNear s = near s.spans ≡ true
+GivenNear s = near (mirror_spans s) ≡ true
 
 abbrev pub CallNear : Call → Type 0
 CallNear (Plain n) = Unit {0}

@@ -1,5 +1,5 @@
 -- A tally as it is kept up while entries come. That it is then the one of the finished list (`Tally`) is proved.
-use Rattle.std.specs.Prelude.{cond, ◌&&◌, List, ℕ, ◌+◌, ◌-◌, ◌*◌, eqb, ltb, get_or, set}
+use Rattle.std.specs.Prelude.{cond, ◌&&◌, List, ℕ, ◌+◌, ◌-◌, ◌*◌, eqb, ltb, get_or, set, None, Option, Some}
 use Rattle.aries.specs.declared.entry.Entry.{Entry}
 use Rattle.aries.specs.Test.{within}
 use Rattle.aries.specs.Numbers.{last_tool}
@@ -29,6 +29,11 @@ hits_noted t at from to =
 -- the tally with such hits, where there are any and the tool is one of those counted
 abbrev pub with_hits : List ℕ → ℕ → ℕ → ℕ → List ℕ
 with_hits t tool from to = cond (within 1 last_tool tool && ltb from to) (hits_noted t (3 * (tool - 1)) from to) t
+
+-- the same of the tool chosen; where none is there are no hits
+abbrev pub with_chosen : List ℕ → Option ℕ → ℕ → ℕ → List ℕ
+with_chosen t None from to = t
+with_chosen t (Some tool) from to = with_hits t tool from to
 
 -- the tally with an entry at place k; a stop is not counted
 abbrev pub tally_put : List ℕ → ℕ → Entry → List ℕ

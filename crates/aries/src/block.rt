@@ -1,5 +1,5 @@
 ghost use Rattle.std.specs.Prelude.{◌≡◌};
-ghost use Rattle.aries.specs.Moves.{written_over};
+ghost use Rattle.aries.specs.Moves.{written_over, written_or};
 
 use crate::point::Point;
 
@@ -26,7 +26,6 @@ pub enum Kind {
     LetterU,
     LetterV,
     LetterW,
-    Unknown,
     G66,
     G73,
 }
@@ -48,6 +47,16 @@ impl Axes {
             y: self.y.unwrap_or(before.y),
         }
     }
+
+    // X and Y, each of them as it was before where it is not written.
+    pub fn or(self, before: Axes) -> Axes
+        ensures { result ≡ written_or self before }
+    {
+        Axes {
+            x: self.x.or(before.x),
+            y: self.y.or(before.y),
+        }
+    }
 }
 
 // Steps from the first place of a grid or layout to the last one, along X and along Y: one less than its columns and
@@ -56,6 +65,32 @@ impl Axes {
 pub struct Steps {
     pub x: u16,
     pub y: u16,
+}
+
+impl Steps {
+    ghost use Rattle.aries.specs.Lanes.{places, lane_end, last_lane};
+
+    // How many places there are.
+    #[tactic(auto, using(crate::proofs::Lanes::places_fit))]
+    pub fn places(self) -> u64
+        ensures { result ≡ places self }
+    {
+        (u64::from(self.x) + 1) * (u64::from(self.y) + 1)
+    }
+
+    // The last place of a lane: of a row, or where lanes are vertical of a column.
+    pub fn lane_end(self, vertical: bool) -> u16
+        ensures { result ≡ lane_end vertical self }
+    {
+        if vertical { self.y } else { self.x }
+    }
+
+    // The last lane.
+    pub fn last_lane(self, vertical: bool) -> u16
+        ensures { result ≡ last_lane vertical self }
+    {
+        if vertical { self.x } else { self.y }
+    }
 }
 
 // The pitches of a layout.
@@ -128,19 +163,19 @@ pub struct Copies {
     pub corner: u8,
 }
 
-// A block that is carried out where it stands, in a body and outside bodies. A tool of 0 is no T, a memory of 0 no A.
+// A block that is carried out where it stands, in a body and outside bodies.
 #[derive(Clone, Copy)]
 pub enum Direct {
     // a lone G90 or G91
     Lone,
-    // X or Y without a code: a hit
-    Punch(Axes, u8),
-    // G70
-    Move(Axes, u8),
+    // X or Y without a code: a hit, with the tool of T where it is written
+    Punch(Axes, Option<u8>),
+    // G70, with the tool of T
+    Move(Axes, Option<u8>),
     // G72
     PatternOrigin(Axes),
-    // a pattern code
-    RunPattern(Pattern, u8, u8),
+    // a pattern code, with the tool of T and the memory of A, where they are written
+    RunPattern(Pattern, Option<u8>, Option<u8>),
     // B
     Recall(u8),
     // M12, and M13 with false

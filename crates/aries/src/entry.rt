@@ -58,7 +58,7 @@ impl Entry {
 fn mode_number(nibble: bool) -> i32
     ensures { result ≡ mode_number nibble }
 {
-    if nibble { 1 } else { 0 }
+    i32::from(nibble)
 }
 
 // The mode number of a stop: 3 where it is optional, else 2.

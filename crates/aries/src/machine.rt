@@ -27,7 +27,7 @@ impl Machine {
 
     pub const FAR_Y: i32 = 60_000;
 
-    // The machine that a G92 pair names, if any.
+    // The machine that a G92 pair names, if any. Tried as TryFrom: that asks for an error where None says all, and is no plainer.
     #[tactic(auto, unfolding(crate::specs::Machine::named, crate::specs::Machine::is_pair))]
     pub fn named(pair: Point) -> Option<Machine>
         ensures { result ≡ named pair }

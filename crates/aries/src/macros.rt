@@ -12,19 +12,19 @@ pub struct StoredBody {
     pub line: u16,
 }
 
-impl StoredBody {
-    // Its characters.
-    fn size(self) -> usize
-        ensures { (result ≡ self.end - self.start) × (result ≤ 65535) }
-    {
-        self.end.saturating_sub(self.start) as usize
-    }
+// Where a stored body starts in the text without spaces, and the line of its start.
+#[derive(Clone, Copy)]
+pub struct Start {
+    pub offset: u16,
+    pub line: u16,
 }
 
-// The stored bodies, by macro number.
+// The stored bodies: where each starts and ends, by macro number, a struct by value as document 01 names it. Nothing is stored where
+// there is no start.
 #[derive(Clone, Copy)]
 pub struct Macros {
-    pub bodies: [Option<StoredBody>; SLOTS],
+    pub starts: [Option<Start>; SLOTS],
+    pub ends: [u16; SLOTS],
 }
 
 impl Macros {
@@ -33,7 +33,8 @@ impl Macros {
         ensures { result ≡ no_macros }
     {
         Macros {
-            bodies: [None; SLOTS],
+            starts: [None; SLOTS],
+            ends: [0; SLOTS],
         }
     }
 
@@ -42,7 +43,15 @@ impl Macros {
         ensures { result ≡ found_in self.now number }
     {
         let n = usize::from(number);
-        if n < SLOTS { self.bodies[n] } else { None }
+        if SLOTS <= n {
+            return None;
+        }
+        let start = self.starts[n]?;
+        Some(StoredBody {
+            start: start.offset,
+            end: self.ends[n],
+            line: start.line,
+        })
     }
 
     // With the body of a macro in place of its old one.
@@ -51,7 +60,11 @@ impl Macros {
     {
         let n = usize::from(number);
         if n < SLOTS {
-            self.bodies[n] = Some(body);
+            self.starts[n] = Some(Start {
+                offset: body.start,
+                line: body.line,
+            });
+            self.ends[n] = body.end;
         }
         self
     }
@@ -62,9 +75,9 @@ impl Macros {
         ensures { result ≡ characters self.now }
     {
         let mut total = 0;
-        for slot in &self.bodies {
-            if let Some(body) = slot {
-                total += body.size();
+        for (start, end) in self.starts.iter().zip(&self.ends) {
+            if let Some(start) = start {
+                total += usize::from(end.saturating_sub(start.offset));
             }
         }
         total

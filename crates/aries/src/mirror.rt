@@ -6,7 +6,8 @@ ghost use Rattle.aries.specs.Steady.{span_limit};
 
 use crate::point::Point;
 
-// How one axis is seen after all mirrors that are open, measured from the origin: x at span + x or, flipped, at span - x.
+// How one axis is seen after all mirrors that are open, measured from the origin: x at span + x or, flipped, at span - x. How long a span
+// may be is a clause and no invariant: one mirror more makes it longer.
 #[derive(Clone, Copy)]
 pub struct Facing {
     pub flipped: bool,

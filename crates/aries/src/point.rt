@@ -16,7 +16,8 @@ impl Point {
     pub const ZERO: Point = Point { x: 0, y: 0 };
 }
 
-// A point as it is computed, before anything is judged of it.
+// A point as it is computed, before anything is judged of it. That it is moderate is a clause of those who need it, and no invariant: seen
+// in mirrors it may not be.
 #[derive(Clone, Copy)]
 pub struct WidePoint {
     pub x: i64,

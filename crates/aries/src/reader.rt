@@ -9,11 +9,11 @@ pub enum Setting {
     Millimetres,
 }
 
-impl Setting {
-    // The setting that a caller states: 0, and any other number counts as 1.
-    pub fn of(number: i32) -> Setting
-        ensures { result ≡ setting_of number }
-    {
+// The setting that a caller states: 0, and any other number counts as 1.
+impl From<i32> for Setting {
+    ghost from_gives = { λ number setting. setting ≡ setting_of number };
+
+    fn from(number: i32) -> Setting {
         if number == 0 {
             Setting::Millimetres
         } else {

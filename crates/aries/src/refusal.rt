@@ -1,5 +1,8 @@
-ghost use Rattle.std.specs.Prelude.{◌≡◌};
-ghost use Rattle.aries.specs.Outcome.{refusal_number};
+ghost use Rattle.std.specs.Prelude.{◌≡◌, Some};
+ghost use Rattle.std.specs.Fmt.{decimal};
+ghost use Rattle.aries.specs.Outcome.{refusal_number, refused_text};
+
+use std::fmt;
 
 // The refusals by their numbers, in checking order but for the last.
 #[derive(Clone, Copy, Debug, PartialEq, Eq)]
@@ -25,7 +28,7 @@ pub enum Refusal {
     ShearUnfit = 18,
 }
 
-// A refusal and its line: that of the block, or 0 where no line is at fault.
+// A refusal and its line: that of the block, or 0 where no line is at fault, as document 01 has it.
 #[derive(Clone, Copy, Debug, PartialEq, Eq)]
 pub struct Refused {
     pub refusal: Refusal,
@@ -48,5 +51,24 @@ impl Refusal {
             refusal: self,
             line,
         }
+    }
+}
+
+// A refusal is shown as its number.
+impl fmt::Display for Refusal {
+    ghost output = { λ refusal. Some (decimal (refusal_number refusal)) };
+
+    fn fmt<W: fmt::Write>(&self, f: &mut fmt::Formatter<W>) -> fmt::Result {
+        write!(f, "{}", self.number())
+    }
+}
+
+// With its line, as the program hitlist names it.
+impl fmt::Display for Refused {
+    ghost output = { λ refused. Some (refused_text refused) };
+
+    #[tactic(auto, unfolding(crate::specs::Outcome::refused_text, crate::specs::Text::bytes))]
+    fn fmt<W: fmt::Write>(&self, f: &mut fmt::Formatter<W>) -> fmt::Result {
+        write!(f, "REFUSED {} LINE {}", self.refusal, self.line)
     }
 }

@@ -15,10 +15,7 @@ use crate::state::{Frame, Progress};
 pub fn reference_of(sheet: Option<Layout>) -> Point
     ensures { result ≡ reference_of sheet }
 {
-    match sheet {
-        None => Point::ZERO,
-        Some(layout) => layout.reference,
-    }
+    sheet.map_or(Point::ZERO, |layout| layout.reference)
 }
 
 // What G92, G93 and G98 set up for a job: the machine, the layout of the sheet, and where X and Y are measured from, reference
@@ -72,11 +69,10 @@ impl Setup {
         ensures { result ≡ with_origin self sheet offset }
     {
         Setup {
-            job: self.job,
-            machine: self.machine,
             sheet,
             offset,
             origin,
+            ..self
         }
     }
 }

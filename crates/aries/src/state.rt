@@ -9,6 +9,7 @@ ghost use Rattle.aries.specs.Moves.{
   dropping,
   standing_at,
   giving,
+  mirror_spans,
   fresh_state,
   fresh_progress,
   with_state,
@@ -19,7 +20,7 @@ ghost use Rattle.aries.specs.Judging.{most_blocks, near};
 ghost use Rattle.aries.specs.Machine.{in_range};
 ghost use Rattle.aries.specs.WidePoints.{point_of, Moderate};
 ghost use Rattle.aries.specs.Mirrors.{mirrored, seen};
-ghost use Rattle.aries.specs.Reader.{reader_at};
+ghost use Rattle.aries.specs.Reader.{reader_of, given_of};
 ghost use Rattle.aries.specs.Setup.{frame_at};
 ghost use Rattle.aries.specs.Steady.{Steady};
 
@@ -30,22 +31,25 @@ use crate::mirror::Mirror;
 use crate::point::{Point, WidePoint};
 use crate::reader::{Given, Reader};
 
+// Tools are numbered from 1 to
+pub const LAST_TOOL: u8 = 99;
+
 // How many pattern memories there are.
 pub const MEMORIES: usize = 5;
 
-// The punching state: what a block of a body leaves to the next. A tool of 0 is none chosen. The memories, most of its
-// bytes, stand first, where they are copied aligned. Spans are X and Y as G73 blocks have given them last, and zero before; waiting
-// is the pattern origin that G72 set and no pattern has used up yet.
+// The punching state: what a block of a body leaves to the next. The memories, most of its bytes, stand first, where they are
+// copied aligned. Spans are X and Y as G73 blocks have given them last, where one has; waiting is the pattern origin that G72 set and
+// no pattern has used up yet; tool is the one that is chosen. Incremental is G91 and nibble N: both are only asked as conditions. That the
+// spans are near is a clause of those who need it, and no invariant, which `giving` would have to ask of its axes.
 #[derive(Clone, Copy)]
 pub struct State {
     pub memories: [Option<Pattern>; MEMORIES],
     pub current: Point,
-    pub spans: Point,
+    pub spans: Axes,
     pub waiting: Option<Point>,
     pub incremental: bool,
     pub nibble: bool,
-    pub tool: u8,
-    pub given: Given,
+    pub tool: Option<u8>,
 }
 
 impl State {
@@ -56,12 +60,11 @@ impl State {
         State {
             memories: [None; MEMORIES],
             current: Point::ZERO,
-            spans: Point::ZERO,
+            spans: Axes { x: None, y: None },
             waiting: None,
             incremental: false,
             nibble: false,
-            tool: 0,
-            given: Given { x: false, y: false },
+            tool: None,
         }
     }
 
@@ -100,12 +103,25 @@ impl State {
     pub fn giving(mut self, axes: Axes) -> State
         ensures { result ≡ giving self axes }
     {
-        self.given = Given {
-            x: axes.x.is_some() | self.given.x,
-            y: axes.y.is_some() | self.given.y,
-        };
-        self.spans = axes.over(self.spans);
+        self.spans = axes.or(self.spans);
         self
+    }
+
+    // a and b of a mirror: X and Y as G73 blocks have given them last, and zero where none has.
+    pub fn mirror_spans(self) -> Point
+        ensures { result ≡ mirror_spans self }
+    {
+        self.spans.over(Point::ZERO)
+    }
+
+    // Which of them G73 blocks have given.
+    fn given(self) -> Given
+        ensures { result ≡ given_of self }
+    {
+        Given {
+            x: self.spans.x.is_some(),
+            y: self.spans.y.is_some(),
+        }
     }
 
     // The state in mode N, or with false in mode P.
@@ -116,22 +132,20 @@ impl State {
         self
     }
 
-    // The state with the tool of a T word; 0 is no T.
-    pub fn choosing(mut self, tool: u8) -> State
+    // The state with the tool of T, where it is written.
+    pub fn choosing(mut self, tool: Option<u8>) -> State
         ensures { result ≡ choosing self tool }
     {
-        if 0 < tool {
-            self.tool = tool;
-        }
+        self.tool = tool.or(self.tool);
         self
     }
 
-    // The state with a pattern in memory n. 0 is no A, and past the last memory nothing is stored.
-    pub fn remembering(mut self, n: u8, p: Pattern) -> State
-        ensures { result ≡ remembering self n p }
+    // The state with a pattern in the memory of A, where it is written. Past the last memory nothing is stored.
+    pub fn remembering(mut self, memory: Option<u8>, p: Pattern) -> State
+        ensures { result ≡ remembering self memory p }
     {
-        if 0 < n {
-            let place = usize::from(n - 1);
+        if let Some(n) = memory {
+            let place = usize::from(n.saturating_sub(1));
             if place < MEMORIES {
                 self.memories[place] = Some(p);
             }
@@ -219,13 +233,16 @@ impl Frame {
         }
     }
 
-    // What blocks are read by: the setting of the job, and the letters given.
-    pub fn reader(self, given: Given) -> Reader
-        ensures { result ≡ reader_at self.job.setting given }
+    // What blocks are read by: the setting of the job, and the letters that the state has.
+    pub fn reader(self, state: &State) -> Reader
+        ensures { result ≡ reader_of self state.now }
     {
         let job = self.job;
         let setting = job.setting;
-        Reader { setting, given }
+        Reader {
+            setting,
+            given: state.given(),
+        }
     }
 
     // Whether a place is in the punching range.

@@ -98,14 +98,12 @@ impl Letters {
     {
         let place = place_of(letter);
         let value = self.numbers.get(place).copied().unwrap_or(0);
-        match self.marks.get(place).copied().unwrap_or(None) {
-            None => None,
-            Some(Marks { signed, pointed }) => Some(Word {
-                signed,
-                pointed,
-                value,
-            }),
-        }
+        let marks = self.marks.get(place).copied().flatten();
+        marks.map(|marks| Word {
+            signed: marks.signed,
+            pointed: marks.pointed,
+            value,
+        })
     }
 
     // Whether a letter is written.
@@ -114,7 +112,7 @@ impl Letters {
         ensures { result ≡ has self.now letter }
     {
         let marks = self.marks.get(place_of(letter)).copied();
-        marks.unwrap_or(None).is_some()
+        marks.flatten().is_some()
     }
 
     // Puts a word in the place of its letter; what is no letter has none.
@@ -194,7 +192,7 @@ impl Words {
         self.at(letter).map(|word| word.value)
     }
 
-    // Its number, 0 where it is absent.
+    // Its number, 0 where it is absent: what document 01 takes an omitted one for.
     pub fn number(&self, letter: u8) -> i32
         ensures { result ≡ number self.now.letters letter }
     {

@@ -1,6 +1,7 @@
 -- Laws of counting: where no letter stands twice, the letters of a block fit those of its kind exactly when the counts do.
 -- Assumes nothing.
-use Rattle.std.specs.Prelude.{None, Some, is_some}
+use Rattle.std.specs.Prelude.{None, Some, is_some, count_by}
+use Rattle.std.proofs.lemmas.List.Recursion.{is_count_by}
 use mathlib.Core.Path.{◌≡◌, refl, ap, ◌∙◌}
 use mathlib.Core.Bool.{Bool, true, false, not, cond, ◌&&◌, ◌||◌, and-true}
 use mathlib.Core.List.{List, [], ◌∷◌, ◌++◌, append-nil, append_assoc}
@@ -15,7 +16,7 @@ use Rattle.signed.proofs.Tests.{and_left, and_right}
 use Rattle.aries.specs.declared.word.Word.{Word}
 use Rattle.aries.specs.declared.reader.Given.{Given}
 use Rattle.aries.specs.declared.block.Kind.{Kind}
-use Rattle.aries.specs.declared.block.Kind.TheVariants.{G26, G28, G29, G36, G37, G50, G70, G72, G75, G76, G92, G93, G98, Position, Lone, LetterM, LetterB, LetterU, LetterV, LetterW, Unknown, G66, G73}
+use Rattle.aries.specs.declared.block.Kind.TheVariants.{G26, G28, G29, G36, G37, G50, G70, G72, G75, G76, G92, G93, G98, Position, Lone, LetterM, LetterB, LetterU, LetterV, LetterW, G66, G73}
 use Rattle.aries.specs.Letters.{letter_g, letter_n, index_of}
 use Rattle.aries.specs.Test.{among, every, any_of}
 use Rattle.aries.specs.Text.{bytes, is_capital}
@@ -69,6 +70,17 @@ passing-all : (ls : List ℕ) → passing (λ (l : ℕ). true) ls ≡ length ls
 passing-all [] = refl
 passing-all (l ∷ ls) = omega (arith, passing-all ls)
 
+-- as std counts
+pub passing-count : (t : ℕ → Bool) (ls : List ℕ) → passing t ls ≡ count_by t ls
+passing-count t ls = is_count_by (passing t) t refl step ls
+  where
+    step : (l : ℕ) (ls : List ℕ) → passing t (l ∷ ls) ≡ cond (t l) (1 + passing t ls) (passing t ls)
+    step l ls = go (t l)
+      where
+        go : (b : Bool) → cond b 1 0 + passing t ls ≡ cond b (1 + passing t ls) (passing t ls)
+        go true = refl
+        go false = zero-add (passing t ls)
+
 module _ (t : ℕ → Bool) where
   -- all pass
   passing-every : (ls : List ℕ) → eqb (passing t ls) (length ls) ≡ every t ls
@@ -117,7 +129,6 @@ module _ (w : Letters) where
   listed_once LetterU = simp zero-add
   listed_once LetterV = simp zero-add
   listed_once LetterW = simp zero-add
-  listed_once Unknown = refl
 
   -- as many words as listed letters: no letter but the listed ones
   count-others :

@@ -1,5 +1,5 @@
 -- What the words of a block are judged to be, and what judging leaves of them.
-use Rattle.std.specs.Prelude.{cond, ◌&&◌, Option, Result, Ok, Err}
+use Rattle.std.specs.Prelude.{cond, ◌&&◌, None, Option, Some, Result, Ok, Err}
 use Rattle.aries.specs.declared.reader.Reader.{Reader}
 use Rattle.aries.specs.declared.block.Kind.{Kind}
 use Rattle.aries.specs.declared.block.Measure.{Measure}
@@ -17,9 +17,14 @@ ranged_as r l k =
     (Ok (k, l.words.measure))
     (Err WrongNumber)
 
--- what the words of a block are judged to be: 5, then 6
+-- what words are judged to be as those of a kind, if there is one: 5, then 6
+abbrev pub judged_as : Reader → Line → Option Kind → Result (Kind × Option Measure) Refusal
+judged_as r l None = Err NotListed
+judged_as r l (Some k) = cond (is_counted r.given l k) (ranged_as r l k) (Err NotListed)
+
+-- what the words of a block are judged to be
 abbrev pub judged_of : Reader → Line → Result (Kind × Option Measure) Refusal
-judged_of r l = cond (is_counted r.given l (kind_of l.words)) (ranged_as r l (kind_of l.words)) (Err NotListed)
+judged_of r l = judged_as r l (kind_of l.words)
 
 -- with its lengths and angles in hundredths
 abbrev pub put_in_hundredths : Reader → Line → Kind → Line
@@ -32,5 +37,9 @@ put_in_hundredths r l k =
     }
 
 -- the words that judging leaves: past 5 they are in hundredths
+abbrev pub left_as : Reader → Line → Option Kind → Line
+left_as r l None = l
+left_as r l (Some k) = cond (is_counted r.given l k) (put_in_hundredths r l k) l
+
 abbrev pub line_left : Reader → Line → Line
-line_left r l = cond (is_counted r.given l (kind_of l.words)) (put_in_hundredths r l (kind_of l.words)) l
+line_left r l = left_as r l (kind_of l.words)

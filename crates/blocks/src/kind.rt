@@ -1,16 +1,15 @@
 ghost use Rattle.std.specs.Prelude.{◌≡◌};
-ghost use Rattle.aries.specs.ByLetter.{lookup, codes};
+ghost use Rattle.aries.specs.ByLetter.{row, codes};
 ghost use Rattle.aries.specs.Forms.{plain_kind, kind_of};
-ghost use Rattle.aries.specs.declared.block.Kind.TheVariants.{Unknown};
 
 use aries::block::Kind;
 use aries::word::Words;
 
-// The kind of a block with a code.
-fn coded_kind(code: u32) -> Kind
-    ensures { result ≡ lookup codes code Unknown }
+// The kind of a block with a code, if the code is listed.
+fn coded_kind(code: u32) -> Option<Kind>
+    ensures { result ≡ row codes code }
 {
-    match code {
+    Some(match code {
         26 => Kind::G26,
         28 => Kind::G28,
         29 => Kind::G29,
@@ -26,8 +25,8 @@ fn coded_kind(code: u32) -> Kind
         92 => Kind::G92,
         93 => Kind::G93,
         98 => Kind::G98,
-        _ => Kind::Unknown,
-    }
+        _ => return None,
+    })
 }
 
 // The kind of a block without a code.
@@ -51,13 +50,13 @@ fn plain_kind(words: &Words) -> Kind
     }
 }
 
-// The kind of a block: by its code, or else by its letters.
+// The kind of a block, if it has one: by its code, or else by its letters.
 #[tactic(auto, unfolding(aries::specs::Forms::kind_of))]
-pub fn kind_of(words: &Words) -> Kind
+pub fn kind_of(words: &Words) -> Option<Kind>
     ensures { result ≡ kind_of words.now }
 {
     match words.code {
         Some(code) => coded_kind(code),
-        None => plain_kind(words),
+        None => Some(plain_kind(words)),
     }
 }

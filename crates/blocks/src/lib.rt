@@ -21,7 +21,7 @@ pub fn judge(reader: Reader, line: &mut Line) -> Result<(Kind, Option<Measure>),
     ensures value { result ≡ judged_of reader line.old }
     ensures left { line.new ≡ line_left reader line.old }
 {
-    let kind = kind::kind_of(&line.words);
+    let kind = kind::kind_of(&line.words).ok_or(Refusal::NotListed)?;
     if !letters::is_listed(reader.given, line, kind) {
         return Err(Refusal::NotListed);
     }

@@ -1,7 +1,7 @@
 ghost use Rattle.std.specs.Prelude.{◌≡◌, true, ◌≤◌};
 ghost use Rattle.sine.specs.Sine.{turn};
 ghost use Rattle.aries.specs.Numbers.{is_ranged};
-ghost use Rattle.aries.specs.Blocks.{number, count, axes, steps, point_of_xy, layout, copies, mirroring, line_pattern, arc_pattern, circle_pattern, grid_pattern, shear_pattern, pattern_block, m_block, block_of};
+ghost use Rattle.aries.specs.Blocks.{number, count, count_written, axes, steps, point_of_xy, layout, copies, mirroring, line_pattern, arc_pattern, circle_pattern, grid_pattern, shear_pattern, pattern_block, m_block, block_of};
 ghost use Rattle.aries.specs.Letters.{letter_a, letter_j, letter_k, letter_p, letter_q, letter_t, letter_w};
 ghost use Rattle.lengths.specs.Sized.{Sized};
 
@@ -12,12 +12,24 @@ use aries::block::{
 use aries::point::Point;
 use aries::word::Words;
 
-// A whole number that a byte holds: a tool, a memory, a macro, a corner.
+// A whole number that a byte holds: a memory, a macro, a corner.
 fn small(words: &Words, letter: u8) -> u8
     requires { count words.now.letters letter ≤ 255 }
     ensures { result ≡ count words.now.letters letter }
 {
+    // fits, by the clause
     words.count(letter) as u8
+}
+
+// A whole number that a byte holds, where it is written: the tool of T, the memory of A.
+fn small_written(words: &Words, letter: u8) -> Option<u8>
+    requires { count words.now.letters letter ≤ 255 }
+    ensures { result ≡ count_written words.now.letters letter }
+{
+    words
+        .written(letter)
+        // fits, by the clause
+        .map(|value| value.unsigned_abs() as u8)
 }
 
 // A count of hits or steps.
@@ -25,6 +37,7 @@ fn count(words: &Words, letter: u8) -> u16
     requires { count words.now.letters letter ≤ 999 }
     ensures { result ≡ count words.now.letters letter }
 {
+    // fits, by the clause
     words.count(letter) as u16
 }
 
@@ -159,7 +172,8 @@ fn grid_of(words: &Words, vertical: bool) -> Pattern
 fn angle_of(words: &Words) -> u16
     ensures { result ≡ turn (number words.now.letters letter_j) }
 {
-    sine::turn(words.number(b'J') as i64) as u16
+    // a full turn fits
+    sine::turn(i64::from(words.number(b'J'))) as u16
 }
 
 // G66, in which P and Q are lengths; an absent Q equals P.
@@ -185,8 +199,8 @@ fn pattern_block(words: &Words, pattern: Pattern) -> Block
     requires { (count words.now.letters letter_t ≤ 255) × (count words.now.letters letter_a ≤ 255) }
     ensures { result ≡ pattern_block words.now.letters pattern }
 {
-    let tool = small(words, b'T');
-    let memory = small(words, b'A');
+    let tool = small_written(words, b'T');
+    let memory = small_written(words, b'A');
     Block::Direct(Direct::RunPattern(pattern, tool, memory))
 }
 
@@ -218,7 +232,7 @@ pub fn block_of(words: &Words, kind: Kind) -> Block
         Kind::G37 => pattern_block(words, grid_of(words, true)),
         Kind::G66 => pattern_block(words, shear_of(words)),
         Kind::G50 => Block::Outside(Outside::End),
-        Kind::G70 => Block::Direct(Direct::Move(axes_of(words), small(words, b'T'))),
+        Kind::G70 => Block::Direct(Direct::Move(axes_of(words), small_written(words, b'T'))),
         Kind::G72 => Block::Direct(Direct::PatternOrigin(axes_of(words))),
         Kind::G73 => Block::Call(Call::Mirrored(mirroring_of(words))),
         Kind::G75 => Block::Outside(Outside::Copy(copies_of(words, false))),
@@ -226,13 +240,12 @@ pub fn block_of(words: &Words, kind: Kind) -> Block
         Kind::G92 => Block::Outside(Outside::Machine(point_of(words))),
         Kind::G93 => Block::Outside(Outside::Offset(axes_of(words))),
         Kind::G98 => Block::Outside(Outside::Layout(layout_of(words))),
-        Kind::Position => Block::Direct(Direct::Punch(axes_of(words), small(words, b'T'))),
+        Kind::Position => Block::Direct(Direct::Punch(axes_of(words), small_written(words, b'T'))),
         Kind::Lone => Block::Direct(Direct::Lone),
         Kind::LetterM => m_block(words.count(b'M')),
         Kind::LetterB => Block::Direct(Direct::Recall(small(words, b'B'))),
         Kind::LetterU => Block::Outside(Outside::Open(small(words, b'U'))),
         Kind::LetterV => Block::Outside(Outside::Close(small(words, b'V'))),
         Kind::LetterW => Block::Call(Call::Plain(small(words, b'W'))),
-        Kind::Unknown => Block::Direct(Direct::Idle),
     }
 }

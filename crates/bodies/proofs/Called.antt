@@ -2,24 +2,22 @@
 -- letters of the body are as they have to be.
 use Rattle.std.specs.Prelude.{Err, None, Ok, Some}
 use mathlib.Core.Path.{◌≡◌, refl, ap, subst}
-use mathlib.Core.List.{List}
 use Prim.Native.Nat.{ℕ, suc, ◌-◌, ◌<◌}
 use native.Mathlib.Omega.{arith}
 use Rattle.aries.specs.declared.block.Call.{Call}
 use Rattle.aries.specs.declared.block.Call.TheVariants.{Plain, Mirrored}
-use Rattle.aries.specs.declared.macros.Macros.{Macros}
-use Rattle.aries.specs.declared.macros.StoredBody.{StoredBody}
 use Rattle.aries.specs.declared.refusal.Refusal.TheVariants.{NotStored, TooDeep}
 use Rattle.aries.specs.declared.state.Frame.{Frame}
 use Rattle.aries.specs.declared.state.Progress.{Progress}
 use Rattle.aries.specs.Outcome.{Out, refused}
 use Rattle.aries.specs.Entries.{map_after}
 use Rattle.aries.specs.Judging.{Judging, limits}
-use Rattle.aries.specs.Macros.{Body, Bodies, bodies_of, found_in, part, at_origin, carry_call, call, run_body, run_lines}
+use Rattle.aries.specs.Macros.{Body, Bodies, at_origin, carry_call, call, run_body, run_lines}
+use Rattle.aries.specs.Moves.{mirror_spans}
 use Rattle.aries.specs.Text.{lines}
 use Rattle.aries.specs.Runs.{Lent, entries_made, Ran}
 use Rattle.aries.specs.Steady.{Steady, GivenNear, CallNear}
-use Rattle.aries.proofs.Calls.{body_found, call_missing, call_deep, call_body}
+use Rattle.aries.proofs.Calls.{call_missing, call_deep, call_body}
 use Rattle.aries.proofs.Given.{giving-near}
 use Rattle.aries.proofs.Runs.{mapped, ran-map}
 use Rattle.aries.proofs.Steady.{steady_less, steady_mirrored}
@@ -40,46 +38,43 @@ module _ (j : Judging) (bodies : Bodies) (d : ℕ) (f : Frame) (line : ℕ) (g :
 
 -- its body was carried out, from where it begins and in its frame
 module _
-    (text : List ℕ) (m : Macros) (d : ℕ) (f : Frame) (line : ℕ) (b : Call) (g : Progress) (stored : StoredBody) (found : found_in m (part_of b) ≡ Some stored) (opens : 0 < d) {body : List ℕ}
-    (bytes : body ≡ part text stored.start stored.end) {inner : Frame} {begun : Progress} (is_begun : begun ≡ begun_by b f.origin g) (is_inner : inner ≡ frame_by b begun.state.spans f) where
-  abbrev bodies : Bodies
-  bodies = bodies_of text m
-
+    (bodies : Bodies) (d : ℕ) (f : Frame) (line : ℕ) (b : Call) (g : Progress) {x : Body} (stored : bodies (part_of b) ≡ Some x) (opens : 0 < d)
+    {inner : Frame} {begun : Progress} (is_begun : begun ≡ begun_by b f.origin g) (is_inner : inner ≡ frame_by b begun.state f) where
   pub carry_body :
       {result : Out Progress} {before after : Lent}
-      → Ran entries_made inner.job result before after begun.entries (run_lines (limits inner.job) (call (limits inner.job) bodies (d - 1)) inner stored.line (lines body) begun)
+      → Ran entries_made inner.job result before after begun.entries (run_lines (limits inner.job) (call (limits inner.job) bodies (d - 1)) inner x.line (lines x.bytes) begun)
       → Ran entries_made f.job (mapped (left_by b f.origin) result) before after g.entries (carry_call (call (limits f.job) bodies d) f line b g)
   unfolding run_body
-  carry_body {result} {before} {after} ran = go b (body_found text m (part_of b) stored found) (rw (bytes, is_inner, is_begun) at ran)
+  carry_body {result} {before} {after} ran = go b stored (rw (is_inner, is_begun) at ran)
     where
       same : (r : Out Progress) → mapped (λ (k : Progress). k) r ≡ r
       same (Err e) = refl
       same (Ok k) = refl
 
       go :
-          (b : Call) → bodies (part_of b) ≡ Some (record { line = stored.line; bytes = part text stored.start stored.end })
-          → (let k = begun_by b f.origin g in let i = frame_by b k.state.spans f in
-          Ran entries_made i.job result before after k.entries (run_body (limits i.job) bodies (d - 1) i (record { line = stored.line; bytes = part text stored.start stored.end }) k))
+          (b : Call) → bodies (part_of b) ≡ Some x
+          → (let k = begun_by b f.origin g in let i = frame_by b k.state f in
+          Ran entries_made i.job result before after k.entries (run_body (limits i.job) bodies (d - 1) i x k))
           → Ran entries_made f.job (mapped (left_by b f.origin) result) before after g.entries (carry_call (call (limits f.job) bodies d) f line b g)
-      go (Plain n) e r = rw (call_body (limits f.job) bodies f n line g d _ e opens, same result) r
+      go (Plain n) e r = rw (call_body (limits f.job) bodies f n line g d x e opens, same result) r
       go (Mirrored m) e r =
-          rw (call_body (limits f.job) bodies _ m.part line _ d _ e opens) (ran-map (at_origin f) (λ k. refl) _ r)
+          rw (call_body (limits f.job) bodies _ m.part line _ d x e opens) (ran-map (at_origin f) (λ k. refl) _ r)
 
 -- ---- What it needs
 
 module _ (b : Call) (f : Frame) (g : Progress) {begun : Progress} (is_begun : begun ≡ begun_by b f.origin g) (short : CallNear b) (given : GivenNear g.state) where
   -- the letters that its body begins with
-  pub begun-near : GivenNear begun.state
-  begun-near = rw is_begun (go b short)
+  pub begun_near : GivenNear begun.state
+  begun_near = rw is_begun (go b short)
     where
       go : (b : Call) → CallNear b → GivenNear (begun_by b f.origin g).state
       go (Plain n) k = given
       go (Mirrored m) k = giving-near g.state m.axes given k
 
   -- the frame of its body: one call less is left
-  pub frame_steady : {d : ℕ} {inner : Frame} → inner ≡ frame_by b begun.state.spans f → 0 < d → Steady d f → Steady (d - 1) inner
+  pub frame_steady : {d : ℕ} {inner : Frame} → inner ≡ frame_by b begun.state f → 0 < d → Steady d f → Steady (d - 1) inner
   frame_steady {d} is_inner h s = rw is_inner (go b (subst (λ (k : ℕ). Steady k f) (let e : d ≡ suc (d - 1) = omega arith in e) s))
     where
-      go : (b : Call) → Steady (suc (d - 1)) f → Steady (d - 1) (frame_by b begun.state.spans f)
+      go : (b : Call) → Steady (suc (d - 1)) f → Steady (d - 1) (frame_by b begun.state f)
       go (Plain n) s = steady_less (omega arith) s
-      go (Mirrored m) s = steady_mirrored m.way begun.state.spans begun-near s
+      go (Mirrored m) s = steady_mirrored m.way (mirror_spans begun.state) begun_near s

@@ -1,5 +1,4 @@
-pub mod Options
 pub mod Thence
 pub mod Lines
-pub mod Rest
+pub mod Turns
 pub mod Called

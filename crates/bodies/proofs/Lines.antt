@@ -1,6 +1,6 @@
 -- The lines of a body, stretch by stretch: what direct blocks one after another make, and then what follows the block that
 -- they end at.
-use Rattle.std.specs.Prelude.{Err, Ok, Some}
+use Rattle.std.specs.Prelude.{Err, None, Ok, Option, Some}
 use mathlib.Core.Path.{◌≡◌, refl, sym, ap, ◌∙◌, fun_ext}
 use mathlib.Core.Bool.{Bool, true, false}
 use mathlib.Core.List.{List, [], ◌∷◌}
@@ -11,10 +11,11 @@ use lib.Dec.{ltb}
 use lib.ListN.{length, get_or, drop}
 use Rattle.aries.specs.declared.block.Block.{Block}
 use Rattle.aries.specs.declared.location.Location.{Location}
+use Rattle.aries.specs.declared.refusal.Refusal.TheVariants.{OutOfPlace}
 use Rattle.aries.specs.declared.state.Frame.{Frame}
 use Rattle.aries.specs.declared.state.Progress.{Progress}
-use Rattle.aries.specs.Outcome.{Out, ◌>>=◌}
-use Rattle.aries.specs.Entries.{Made, adding, and_then, map_after}
+use Rattle.aries.specs.Outcome.{Out, refused, ◌>>=◌}
+use Rattle.aries.specs.Entries.{Made, no_entry, adding, and_then, map_after}
 use Rattle.aries.specs.Judging.{Judging}
 use Rattle.aries.specs.Macros.{Calls, carry_direct, carry_call, carry, Begun, begin, run_block, run_line, run_lines}
 use Rattle.aries.specs.Text.{lines, line_feed}
@@ -22,11 +23,15 @@ use Rattle.aries.proofs.Runs.{no_entry_then}
 use Rattle.text.specs.Lines.{line_length}
 use Rattle.text.proofs.Lines.{line-ends, lines_at, lines-past}
 use Rattle.stretches.specs.declared.Sequel.{Sequel}
-use Rattle.stretches.specs.declared.Stretch.{Stretch}
-use Rattle.stretches.specs.Stretches.{going, block_step, line_step, onward, end_of, behind, stretch}
+use Rattle.stretches.specs.Stretches.{Stretch, going, block_step, line_step, onward, end_of, behind, stretch}
 use Rattle.stretches.proofs.Sequels.{first-line}
-use Rattle.bodies.specs.Rest.{rest}
 use Rattle.bodies.proofs.Thence.{thence, adding_thence}
+
+-- what follows a stretch: nothing at the end; a call, and then the lines behind it; any other block is out of place
+abbrev following : Judging → Calls → Frame → List ℕ → Option Sequel → Progress → Out (Made Progress)
+following j c f t None g = no_entry g
+following j c f t (Some (Sequel.Call x end)) g = and_then (carry_call c f end.line x g) (run_lines j c f end.line (lines (drop end.offset t)))
+following j c f t (Some (Sequel.Outside o end)) g = refused OutOfPlace end.line
 
 module _ (j : Judging) (c : Calls) (f : Frame) where
   -- ---- From line to line
@@ -57,7 +62,7 @@ module _ (j : Judging) (c : Calls) (f : Frame) where
   module _ (t : List ℕ) where
     -- what a stretch leads to
     abbrev pub followed : Stretch → Out (Made Progress)
-    followed s = rest j c f t s.sequel s.progress
+    followed s = following j c f t s.sequel s.progress
 
     -- a line, and what follows it
     line-all :
@@ -78,7 +83,7 @@ module _ (j : Judging) (c : Calls) (f : Frame) where
 
         blocks : (d : Block) (g : Progress) → and_then (carry j c f from.line d g) next ≡ thence (and_then (block_step j f end d g) (onward later)) followed
         blocks (Block.Direct d) g = carried (carry_direct j f from.line d g)
-        blocks (Block.Call x) g = ap (and_then (carry_call c f from.line x g)) (fun_ext past) ∙ sym (no_entry_then g (rest j c f t (Some (Sequel.Call x end))))
+        blocks (Block.Call x) g = ap (and_then (carry_call c f from.line x g)) (fun_ext past) ∙ sym (no_entry_then g (following j c f t (Some (Sequel.Call x end))))
         blocks (Block.Outside o) g = refl
 
         begins :

@@ -11,8 +11,7 @@ use Rattle.aries.specs.Outcome.{Out}
 use Rattle.aries.specs.Entries.{Made, adding, and_then, map_after}
 use Rattle.aries.specs.Runs.{Lent, Ran, entries_made}
 use Rattle.aries.proofs.Runs.{mapped, ran_as, ran-refused, ran_then, ran-map, refused_out, Leads}
-use Rattle.stretches.specs.declared.Stretch.{Stretch}
-use Rattle.stretches.specs.Stretches.{going, entries_of_stretch}
+use Rattle.stretches.specs.Stretches.{Stretch, going, entries_of_stretch}
 
 abbrev pub thence : Out (Made Stretch) → (Stretch → Out (Made Progress)) → Out (Made Progress)
 thence (Err e) next = Err e

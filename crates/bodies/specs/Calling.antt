@@ -6,8 +6,9 @@ use Rattle.aries.specs.declared.block.Call.TheVariants.{Plain, Mirrored}
 use Rattle.aries.specs.declared.point.Point.{Point}
 use Rattle.aries.specs.declared.state.Frame.{Frame}
 use Rattle.aries.specs.declared.state.Progress.{Progress}
+use Rattle.aries.specs.declared.state.State.{State}
 use Rattle.aries.specs.Mirrors.{mirrored}
-use Rattle.aries.specs.Moves.{giving, standing_at, with_state}
+use Rattle.aries.specs.Moves.{giving, mirror_spans, standing_at, with_state}
 
 -- its macro
 abbrev pub part_of : Call → ℕ
@@ -19,10 +20,10 @@ abbrev pub begun_by : Call → Point → Progress → Progress
 begun_by (Plain n) origin g = g
 begun_by (Mirrored m) origin g = with_state g (standing_at (giving g.state m.axes) origin)
 
--- the frame that it is carried out in, by a and b
-abbrev pub frame_by : Call → Point → Frame → Frame
-frame_by (Plain n) spans f = f
-frame_by (Mirrored m) spans f = mirrored m.way spans f
+-- the frame that it is carried out in, by the a and b of a state
+abbrev pub frame_by : Call → State → Frame → Frame
+frame_by (Plain n) s f = f
+frame_by (Mirrored m) s f = mirrored m.way (mirror_spans s) f
 
 -- what is left of the progress that it ends with
 abbrev pub left_by : Call → Point → Progress → Progress

@@ -1,21 +1,22 @@
 // Bodies: the blocks of a body, and the calls among them.
 #![tactic(auto)]
 
-ghost use Rattle.std.specs.Prelude.{◌≡◌, length, drop};
-ghost use Rattle.aries.specs.Macros.{part, bodies_of, call, carry_call, run_lines};
-ghost use Rattle.aries.specs.Runs.{lent_both, Carried};
+ghost use Rattle.std.specs.Prelude.{◌≡◌, drop, IfSome};
+ghost use Rattle.aries.specs.Macros.{bodies_of, part, call, carry_call, run_lines};
+ghost use Rattle.aries.specs.Reader.{reader_of};
+ghost use Rattle.aries.specs.Runs.{lent_both, leaving, Carried};
 ghost use Rattle.aries.specs.Steady.{CallNear, GivenNear, Steady};
 ghost use Rattle.aries.specs.Text.{lines};
-ghost use Rattle.stretches.specs.Stretches.{LinesFit};
-ghost use Rattle.bodies.specs.Rest.{rest, RestFits};
+ghost use Rattle.stretches.specs.Lookahead.{LinesFit, Read};
+ghost use Rattle.bodies.specs.Stored.{found_of};
 
-use crate::calling::{begun_by, frame_by, left_by, part_of};
+use crate::calling::{begin_call, end_call, frame_by, part_of};
 use aries::block::Call;
 use aries::location::Location;
 use aries::macros::{Macros, StoredBody};
 use aries::refusal::{Refusal, Refused};
 use aries::state::{Frame, Progress};
-use stretches::{Sequel, Stretch, look_ahead, run_stretch};
+use stretches::{Lines, Sequel, run_stretch};
 use tallies::FIGURES;
 
 mod calling; // a block that calls a macro: what its body begins with, and what is left
@@ -30,128 +31,110 @@ pub const FURTHER_CALLS: u8 = 3;
 pub fn bytes_of<'a>(text: &'a [u8], body: StoredBody) -> &'a [u8]
     ensures { result.now ≡ part text.now body.start body.end }
 {
-    let end = (body.end as usize).min(text.len());
-    let start = (body.start as usize).min(end);
+    let end = usize::from(body.end).min(text.len());
+    let start = usize::from(body.start).min(end);
     &text[start..end]
 }
 
-// The blocks of a body from a place on, up to the first refusal, with so many calls left to open: direct blocks are carried
-// out as a stretch, and what follows them goes to the block runner.
+// A body: its bytes, a part of the text, and the number of its first line.
+#[derive(Clone, Copy)]
+pub struct Body<'a> {
+    pub bytes: &'a [u8],
+    pub line: u64,
+}
+
+impl Body<'_> {
+    // Where its first line starts.
+    pub fn start(self) -> Location
+        ensures { result ≡ record { offset = 0; line = self.entry.line } }
+    {
+        Location {
+            offset: 0,
+            line: self.line,
+        }
+    }
+}
+
+// What is stored: where the bodies lie, and the text that they lie in.
+#[derive(Clone, Copy)]
+pub struct Stored<'a> {
+    pub text: &'a [u8],
+    pub macros: &'a Macros,
+}
+
+impl<'a> Stored<'a> {
+    // The body of a macro.
+    #[tactic(auto, unfolding(aries::specs::Macros::bodies_of))]
+    pub fn find(self, number: u8) -> Option<Body<'a>>
+        ensures found { found_of result ≡ bodies_of self.entry.text.now self.entry.macros.now number }
+        ensures lines_fit { IfSome result (λ body. LinesFit (record { offset = 0; line = body.line }) body.bytes.now) }
+    {
+        let stored = self.macros.find(number)?;
+        Some(Body {
+            bytes: bytes_of(self.text, stored),
+            line: u64::from(stored.line),
+        })
+    }
+}
+
+// The block runner: lines of a body, up to the first refusal, with so many calls left to open. Direct blocks are carried out as a
+// stretch, a call that comes behind them goes to the body runner, and any other block is out of place.
+#[cycle(calls)]
 pub fn run_blocks(
     depth: u8,
     list: &mut [i32],
     tally: &mut [u64; FIGURES],
-    text: &[u8],
-    body: &[u8],
-    from: Location,
-    macros: &Macros,
+    stored: Stored,
+    source: Lines,
     frame: Frame,
-    progress: Progress,
-) -> Result<Progress, Refused>
-    requires lines_fit { LinesFit from body.now }
+    progress: &mut Progress,
+) -> Result<(), Refused>
+    requires read { Read (reader_of frame progress.old.state) source }
     requires steady { Steady depth frame }
-    requires given_near { GivenNear progress.state }
-    ensures { Carried result frame (lent_both list.old tally.old) (lent_both list.new tally.new) progress (λ j. run_lines j (call j (bodies_of text.now macros.now) depth) frame from.line (lines (drop from.offset body.now))) }
+    requires given_near { GivenNear progress.old.state }
+    ensures { Carried (leaving result progress.new) frame (lent_both list.old tally.old) (lent_both list.new tally.new) progress.old (λ j. run_lines j (call j (bodies_of stored.entry.text.now stored.entry.macros.now) depth) frame source.entry.from.line (lines (drop source.entry.from.offset source.entry.text.now))) }
 {
-    let start = look_ahead(frame.reader(progress.state.given), body, from);
-    let stretch = run_stretch(list, tally, body, from, start, frame, progress)?;
-    finish_body(depth, list, tally, text, body, stretch, macros, frame)
-}
-
-// The block runner: what follows a stretch in a body, from the block that it ended at on. A call goes to the body runner,
-// and the next stretch begins behind it; any other block is out of place.
-#[cycle(run_body_run_rest)]
-pub fn run_rest(
-    depth: u8,
-    list: &mut [i32],
-    tally: &mut [u64; FIGURES],
-    text: &[u8],
-    body: &[u8],
-    from: Stretch,
-    macros: &Macros,
-    frame: Frame,
-) -> Result<Progress, Refused>
-    requires rest_fits { RestFits body.now from.sequel }
-    requires steady { Steady depth frame }
-    requires given_near { GivenNear from.progress.state }
-    ensures { Carried result frame (lent_both list.old tally.old) (lent_both list.new tally.new) from.progress (λ j. rest j (call j (bodies_of text.now macros.now) depth) frame body.now from.sequel) }
-{
-    let mut stretch = from;
-    while let Some(sequel) = stretch.sequel {
+    let mut rest = source;
+    while let Some(sequel) = run_stretch(list, tally, rest, frame, progress)? {
         let (block, end) = match sequel {
             Sequel::Call(block, end) => (block, end),
             Sequel::Outside(_, end) => return Err(Refusal::OutOfPlace.at(end.line)),
         };
-        let now = stretch.progress;
-        let left = run_body(
-            depth, list, tally, text, block, end.line, macros, frame, now,
-        )?;
-        let next = look_ahead(frame.reader(left.state.given), body, end);
-        stretch = run_stretch(list, tally, body, end, next, frame, left)?;
+        run_body(depth, list, tally, stored, block, end.line, frame, progress)?;
+        rest = Lines::read(frame.reader(&progress.state), rest.text, end);
     }
-    Ok(stretch.progress)
-}
-
-// A body past its first stretch of direct blocks. Most bodies are at their end there, and the block runner is not called: tried with
-// that call each time, a copy of a part of one block takes half as long again.
-#[inline(always)]
-#[cycle(run_body_run_rest)]
-pub fn finish_body(
-    depth: u8,
-    list: &mut [i32],
-    tally: &mut [u64; FIGURES],
-    text: &[u8],
-    body: &[u8],
-    from: Stretch,
-    macros: &Macros,
-    frame: Frame,
-) -> Result<Progress, Refused>
-    requires rest_fits { RestFits body.now from.sequel }
-    requires steady { Steady depth frame }
-    requires given_near { GivenNear from.progress.state }
-    ensures { Carried result frame (lent_both list.old tally.old) (lent_both list.new tally.new) from.progress (λ j. rest j (call j (bodies_of text.now macros.now) depth) frame body.now from.sequel) }
-{
-    if from.sequel.is_none() {
-        return Ok(from.progress);
-    }
-    run_rest(depth, list, tally, text, body, from, macros, frame)
+    Ok(())
 }
 
 // The body runner: a block that calls a macro in a line, with so many calls left to open, this one among them. The body is a part
-// of the text; its first direct blocks are carried out here, and what follows them goes to the block runner with the store.
-#[cycle(run_body_run_rest)]
+// of the text, and goes to the block runner.
+#[cycle(calls)]
+#[tactic(auto, using(crate::proofs::Called::begun_near, aries::proofs::Steady::steady_less))]
 pub fn run_body(
     depth: u8,
     list: &mut [i32],
     tally: &mut [u64; FIGURES],
-    text: &[u8],
+    stored: Stored,
     block: Call,
     line: u64,
-    macros: &Macros,
     frame: Frame,
-    progress: Progress,
-) -> Result<Progress, Refused>
+    progress: &mut Progress,
+) -> Result<(), Refused>
     requires steady { Steady depth frame }
-    requires given_near { GivenNear progress.state }
+    requires given_near { GivenNear progress.old.state }
     requires call_near { CallNear block }
-    ensures { Carried result frame (lent_both list.old tally.old) (lent_both list.new tally.new) progress (λ j. carry_call (call j (bodies_of text.now macros.now) depth) frame line block) }
+    ensures { Carried (leaving result progress.new) frame (lent_both list.old tally.old) (lent_both list.new tally.new) progress.old (λ j. carry_call (call j (bodies_of stored.entry.text.now stored.entry.macros.now) depth) frame line block) }
 {
-    let stored = macros
+    let body = stored
         .find(part_of(block))
         .ok_or(Refusal::NotStored.at(line))?;
     if depth == 0 {
         return Err(Refusal::TooDeep.at(line));
     }
-    let body = bytes_of(text, stored);
-    let first = Location {
-        offset: 0,
-        line: stored.line as u64,
-    };
-    let origin = frame.origin;
-    let begun = begun_by(block, origin, progress);
-    let inner = frame_by(block, frame, begun.state.spans);
-    let start = look_ahead(inner.reader(begun.state.given), body, first);
-    let stretch = run_stretch(list, tally, body, first, start, inner, begun)?;
-    let left = finish_body(depth - 1, list, tally, text, body, stretch, macros, inner)?;
-    Ok(left_by(block, origin, left))
+    begin_call(block, frame.origin, progress);
+    let inner = frame_by(block, frame, &progress.state);
+    let source = Lines::read(inner.reader(&progress.state), body.bytes, body.start());
+    run_blocks(depth - 1, list, tally, stored, source, inner, progress)?;
+    end_call(block, frame.origin, progress);
+    Ok(())
 }

@@ -5,8 +5,7 @@
 
 ghost use Rattle.std.specs.Prelude.{◌≤◌, length};
 
-use listings::{MOST_READ, NUMBERS, list_text, read_text};
-use printing::Page;
+use listings::{LISTING, MOST_READ, NUMBERS, list_text, read_text};
 use std::env::FillError;
 use std::fs::File;
 use std::io::Read;
@@ -33,10 +32,10 @@ fn run(rt: &impl Print, setting: i32, text: &[u8], list: &mut [i32]) -> io::Resu
     requires { length list.old ≤ NUMBERS }
 {
     let mut tally = [STALE; FIGURES];
-    let mut page = Page::new();
-    list_text(setting, text, list, &mut tally, &mut page);
-    rt.write_all(page.bytes())?;
-    let accepted = page.bytes().starts_with(b"ENTRIES");
+    let mut page = [0u8; LISTING];
+    let listing = list_text(setting, text, list, &mut tally, &mut page);
+    rt.write_all(listing)?;
+    let accepted = listing.starts_with(b"ENTRIES");
     if !tally
         .chunks_exact(TOOL_FIGURES)
         .all(|figures| is_shown(figures, accepted))

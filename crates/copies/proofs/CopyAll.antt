@@ -18,8 +18,8 @@ use Rattle.aries.specs.Entries.{Made, no_entry, and_then}
 use Rattle.aries.specs.Judging.{Judging, limits, near}
 use Rattle.aries.specs.Layouts.{Part, copy_count, copy_place, copy_start, copy, copy_all}
 use Rattle.aries.specs.Moves.{with_state}
-use Rattle.aries.proofs.Runs.{no_entry_then}
-use Rattle.aries.specs.Runs.{Lent, Carried}
+use Rattle.aries.proofs.Runs.{no_entry_then, Leads, leads_as}
+use Rattle.aries.specs.Runs.{Lent, entries_made, Carried}
 use Rattle.aries.specs.Setup.{frame_at}
 use Rattle.aries.proofs.WidePoints.{at-passed, far_failed}
 use Rattle.placing.specs.declared.Places.{Places}
@@ -71,6 +71,14 @@ module _ (j : Judging) (part : Part) (f : Frame) (line : ℕ) (found : State) (p
       let e : copy_count p.layout - m ≡ suc n = omega arith in
       ap (λ (n : ℕ). copy_all j part f line found place n m g) e
       ∙ ap (λ (k : ℕ). and_then (copy_m m g) (copy_all j part f line found place n k)) (sym (add-one m))
+
+  -- what is left is copy m, at a place that is told, and the rest
+  pub copies_left :
+      {job : Job} {l l₀ : Lent} {k₀ : ℕ} {whole : Out (Made Progress)} {place : Point} (m : ℕ) (g : Progress)
+      → place ≡ copy_place p.origin p.layout p.copies m → m < copy_count p.layout
+      → Leads entries_made job l g.entries (copies_from m g) l₀ k₀ whole
+      → Leads entries_made job l g.entries (and_then (copy j part f line found place g) (copies_from (m + 1))) l₀ k₀ whole
+  copies_left m g here more lead = rw here (leads_as (copies_step m g more) lead)
 
   pub copies_end : (m : ℕ) (g : Progress) → copy_count p.layout ≤ m → copies_from m g ≡ no_entry g
   unfolding copy_all

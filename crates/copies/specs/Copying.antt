@@ -17,7 +17,7 @@ body_of from bytes = record { line = from.line; bytes = drop from.offset bytes }
 
 -- a part that is ready to be copied
 abbrev pub part_by : Judging → ReadyPart → Part
-part_by j p = part_of j (bodies_of p.text.now p.macros.now) (body_of p.first p.body.now)
+part_by j p = part_of j (bodies_of p.stored.text.now p.stored.macros.now) (body_of p.source.from p.source.text.now)
 
 -- a part without a block
 abbrev pub blank_part : Part

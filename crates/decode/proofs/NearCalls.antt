@@ -1,6 +1,6 @@
 -- The law `CallsNear`: X and Y of a line that is a call are near. Words have six digits at most, and at
 -- setting 0 no length passes the limit.
-use Rattle.std.specs.Prelude.{None, Some, Err, Ok, Result}
+use Rattle.std.specs.Prelude.{None, Some, Option, Err, Ok, Result}
 use mathlib.Core.Path.{◌≡◌, refl, subst}
 use mathlib.Core.Bool.{Bool, true, false, cond, ◌&&◌}
 use mathlib.Core.List.{List}
@@ -12,7 +12,7 @@ use Rattle.aries.specs.declared.refusal.Refusal.TheVariants.{NotListed, WrongNum
 use Rattle.aries.specs.declared.block.Block.{Block}
 use Rattle.aries.specs.declared.block.Instruction.{Instruction}
 use Rattle.aries.specs.declared.block.Kind.{Kind}
-use Rattle.aries.specs.declared.block.Kind.TheVariants.{G26, G28, G29, G36, G37, G50, G70, G72, G75, G76, G92, G93, G98, Position, Lone, LetterM, LetterB, LetterU, LetterV, LetterW, Unknown, G66, G73}
+use Rattle.aries.specs.declared.block.Kind.TheVariants.{G26, G28, G29, G36, G37, G50, G70, G72, G75, G76, G92, G93, G98, Position, Lone, LetterM, LetterB, LetterU, LetterV, LetterW, G66, G73}
 use Rattle.aries.specs.declared.reader.Reader.{Reader}
 use Rattle.aries.specs.declared.refusal.Refusal.{Refusal}
 use Rattle.aries.specs.Letters.{letter_x, letter_y}
@@ -22,7 +22,7 @@ use Rattle.aries.specs.declared.word.Words.{Words}
 use Rattle.aries.specs.Forms.{in_places, kind_of, is_listed}
 use Rattle.aries.specs.Judging.{farthest, is_near}
 use Rattle.aries.specs.Numbers.{in_hundredths, lengths_fit, is_ranged}
-use Rattle.aries.specs.Blocks.{number, count, block_of, instruction_of, decode_words, decoded, decode}
+use Rattle.aries.specs.Blocks.{number, count, block_of, instruction_of, listed_as, decode_words, decoded, decode}
 use Rattle.aries.specs.Steady.{CallNear, CallsNear}
 use Rattle.words.proofs.Gathering.{AllFormed, front_formed}
 use Rattle.lengths.specs.Sized.{Sized}
@@ -65,7 +65,6 @@ module _ (w : Letters) (sized : Sized w) where
   block_near LetterU = tt
   block_near LetterV = tt
   block_near LetterW = tt
-  block_near Unknown = tt
 
 -- ---- Lines
 
@@ -78,24 +77,25 @@ module _ (r : Reader) where
   -- words past the tests of 5 and 6
   words-near : (ws : List LetterWord) → AllFormed ws → CheckedNear (decode_words r ws)
   unfolding decode_words
-  words-near ws f = go (in_places ws && is_listed r.given w k) (lengths_fit r.setting k w.letters && is_ranged h k) refl
+  words-near ws f = of_kind (kind_of w)
     where
       w : Words
       w = by_letter ws
 
-      k : Kind
-      k = kind_of w
+      of_kind : (o : Option Kind) → CheckedNear (listed_as r ws o)
+      of_kind None = tt
+      of_kind (Some k) = go (in_places ws && is_listed r.given w k) (lengths_fit r.setting k w.letters && is_ranged h k) refl
+        where
+          h : Letters
+          h = in_hundredths r.setting k w.letters
 
-      h : Letters
-      h = in_hundredths r.setting k w.letters
-
-      go :
-          (t u : Bool) → (lengths_fit r.setting k w.letters && is_ranged h k) ≡ u
-          → CheckedNear (cond t (cond u (Ok (instruction_of k w.measure h)) (Err WrongNumber)) (Err NotListed))
-      go false u e = tt
-      go true false e = tt
-      go true true e =
-          block_near h (hundredths_sized r.setting k w.letters (by_letter_sized ws f) (both_pass r.setting k w.letters h e).0) k
+          go :
+              (t u : Bool) → (lengths_fit r.setting k w.letters && is_ranged h k) ≡ u
+              → CheckedNear (cond t (cond u (Ok (instruction_of k w.measure h)) (Err WrongNumber)) (Err NotListed))
+          go false u e = tt
+          go true false e = tt
+          go true true e =
+              block_near h (hundredths_sized r.setting k w.letters (by_letter_sized ws f) (both_pass r.setting k w.letters h e).0) k
 
   line-near : (line : List ℕ) → CheckedNear (decode r line)
   unfolding decode words

@@ -15,9 +15,7 @@ pub fn decode(reader: Reader, text: &[u8], at: usize) -> Result<(Instruction, us
     ensures { result ≡ decoded_at reader text.now at }
 {
     let mut line = Line::none();
-    let Ok(end) = line.read(text, at) else {
-        return Err(Refusal::WordForm);
-    };
+    let end = line.read(text, at).map_err(|_| Refusal::WordForm)?;
     let (kind, measure) = blocks::judge(reader, &mut line)?;
     let block = block_of(&line.words, kind);
     Ok((Instruction { measure, block }, end))

@@ -5,8 +5,7 @@
 mod output; // listings, and failures
 
 use crate::output::{print_listing, tell};
-use listings::{MOST_READ, NUMBERS, list_text, read_text};
-use printing::Page;
+use listings::{LISTING, MOST_READ, NUMBERS, list_text, read_text};
 use std::env::FillError;
 use std::fs::File;
 use std::io::{ErrorKind, Read};
@@ -27,9 +26,9 @@ const NAME_TOO_LONG: i32 = 36;
 fn run<R: Print + Eprint>(rt: &R, text: &[u8]) {
     let mut list = [0i32; NUMBERS];
     let mut tally = [0u64; FIGURES];
-    let mut page = Page::new();
-    list_text(SETTING, text, &mut list, &mut tally, &mut page);
-    print_listing(rt, page.bytes());
+    let mut page = [0u8; LISTING];
+    let listing = list_text(SETTING, text, &mut list, &mut tally, &mut page);
+    print_listing(rt, listing);
 }
 
 // Says on standard error how the program is used.

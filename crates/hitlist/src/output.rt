@@ -11,10 +11,8 @@ const ROOM: usize = 256;
 
 // The words of an error, without the number that stands behind a system's.
 fn words(text: &str) -> &str {
-    match text.rsplit_once(" (os error ") {
-        Some((words, _)) => words,
-        None => text,
-    }
+    text.rsplit_once(" (os error ")
+        .map_or(text, |(words, _)| words)
 }
 
 // Says on standard error what failed, and why the system says that it did.

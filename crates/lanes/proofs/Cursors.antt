@@ -1,73 +1,63 @@
--- Laws of cursors: places counted by quotient and rest.
+-- Laws of cursors: a place's lane and rest are the quotient and the rest of its number.
 use mathlib.Core.Path.{◌≡◌, sym, ap, ap₂, ◌∙◌}
-use mathlib.Core.Bool.{cond}
-use Prim.Native.Nat.{ℕ, suc, ◌+◌, ◌-◌, ◌*◌, ◌/◌, ◌%◌, ◌≤◌, ◌<◌}
-use native.Mathlib.Nat.{div-add-mod', div-eq_of_lt, div-le_self, mod-eq_of_lt, mod-lt, mul-add-div_right, mul-add-mod_self_right, zero-div, zero-mod}
+use mathlib.Core.Bool.{Bool, true, false, cond}
+use Prim.Native.Nat.{ℕ, suc, ◌-◌, ◌/◌, ◌%◌, ◌<◌, ◌≤◌}
+use native.Mathlib.Nat.{div-eq_of_lt, mod-eq_of_lt, mul-add-div_right, mul-add-mod_self_right}
 use native.Mathlib.Omega.{arith}
 use lib.Dec.{eqb}
 use Rattle.lanes.specs.declared.Cursor.{Cursor}
-use Rattle.lanes.specs.Cursors.{cursor_at, passed}
-use Rattle.aries.specs.Lanes.{lane, along}
+use Rattle.lanes.specs.Cursors.{passed}
+use Rattle.aries.specs.declared.block.Steps.{Steps}
+use Rattle.aries.specs.Lanes.{lane, along, places, lane_end, last_lane, column_of, row_of}
+use Rattle.aries.proofs.Lanes.{places-lanes, lane_bound}
 
-abbrev cursor : ℕ → ℕ → Cursor
-cursor q r = record { lane = q; rest = r }
+module _ (c : Cursor) where
+  below : c.rest < suc c.last
+  below = let h = c.inside in omega arith
 
--- as many places come before place m as its number says
-pub passed-at : (last m : ℕ) → passed last (cursor_at last m) ≡ m
-passed-at last m = div-add-mod' m (suc last)
+  -- the lane of a cursor's place
+  pub lane-passed : lane c.last (passed c) ≡ c.lane
+  lane-passed =
+      let e : c.rest / suc c.last ≡ 0 = div-eq_of_lt below in
+      omega (arith, mul-add-div_right {m = suc c.last} (omega arith) c.lane c.rest)
 
--- a cursor within its lane is that of its place
-pub at-passed : (last : ℕ) (c : Cursor) → c.rest ≤ last → cursor_at last (passed last c) ≡ c
-at-passed last c h = ap₂ cursor quotient rest
-  where
-    positive : 0 < suc last
-    positive = omega arith
+  rest-passed : passed c % suc c.last ≡ c.rest
+  rest-passed = mul-add-mod_self_right c.lane (suc c.last) c.rest ∙ mod-eq_of_lt below
 
-    below : c.rest < suc last
-    below = omega arith
+  -- how far along its lane it lies
+  pub along-passed : along c.last (passed c) ≡ cond (eqb (c.lane % 2) 0) c.rest (c.last - c.rest)
+  along-passed = ap₂ (λ (i r : ℕ). cond (eqb (i % 2) 0) r (c.last - r)) lane-passed rest-passed
 
-    quotient : (c.lane * suc last + c.rest) / suc last ≡ c.lane
-    quotient =
-        let e : c.rest / suc last ≡ 0 = div-eq_of_lt below in
-        omega (arith, mul-add-div_right positive c.lane c.rest)
+  -- both where the lanes are known to end
+  in_lane : {last : ℕ} → c.last ≡ last → c.lane ≡ lane last (passed c)
+  in_lane ends = sym lane-passed ∙ ap (λ (n : ℕ). lane n (passed c)) ends
 
-    rest : (c.lane * suc last + c.rest) % suc last ≡ c.rest
-    rest = mul-add-mod_self_right c.lane (suc last) c.rest ∙ mod-eq_of_lt below
+  in_step : {last step : ℕ} → step ≡ along c.last (passed c) → c.last ≡ last → step ≡ along last (passed c)
+  in_step is ends = is ∙ ap (λ (n : ℕ). along n (passed c)) ends
 
--- place 0 is the first of lane 0
-pub at_zero : (last : ℕ) → cursor_at last 0 ≡ record { lane = 0; rest = 0 }
-at_zero last = ap₂ cursor (zero-div (suc last)) (zero-mod (suc last))
+  abbrev pair : ℕ → ℕ → ℕ × ℕ
+  pair x y = (x, y)
 
--- the next place, inside a lane
-pub next-inside : (last : ℕ) (c : Cursor) → c.rest < last → cursor c.lane (c.rest + 1) ≡ cursor_at last (suc (passed last c))
-next-inside last c h =
-    let e : passed last (cursor c.lane (c.rest + 1)) ≡ suc (passed last c) = omega arith in
-    sym (at-passed last (cursor c.lane (c.rest + 1)) (omega arith)) ∙ ap (cursor_at last) e
+  -- its column and row, in lanes that are columns
+  pub in_column : {vertical : Bool} {step : ℕ} → step ≡ along c.last (passed c) → vertical ≡ true → (steps : Steps) → c.last ≡ lane_end vertical steps
+      → ◌≡◌ {A = ℕ × ℕ} (c.lane, step) (column_of vertical steps (passed c), row_of vertical steps (passed c))
+  in_column is v steps ends = ap₂ pair (in_lane ends ∙ simp v) (in_step is ends ∙ simp v)
 
--- and past its last place
-pub next-lane : (last : ℕ) (c : Cursor) → c.rest ≤ last → last ≤ c.rest → cursor (c.lane + 1) 0 ≡ cursor_at last (suc (passed last c))
-next-lane last c h k =
-    let e : passed last (cursor (c.lane + 1) 0) ≡ suc (passed last c) = omega arith in
-    sym (at-passed last (cursor (c.lane + 1) 0) (omega arith)) ∙ ap (cursor_at last) e
+  -- and in rows
+  pub in_row : {vertical : Bool} {step : ℕ} → step ≡ along c.last (passed c) → vertical ≡ false → (steps : Steps) → c.last ≡ lane_end vertical steps
+      → ◌≡◌ {A = ℕ × ℕ} (step, c.lane) (column_of vertical steps (passed c), row_of vertical steps (passed c))
+  in_row is v steps ends = ap₂ pair (in_step is ends ∙ simp v) (in_lane ends ∙ simp v)
 
--- both
-pub ruleset next_places = (next-inside, next-lane)
+  -- a place within steps lies in one of their lanes
+  pub lane_within : (vertical : Bool) (steps : Steps) → c.last ≡ lane_end vertical steps → passed c < places steps → c.lane ≤ last_lane vertical steps
+  lane_within vertical steps ends h =
+      let all = places-lanes vertical steps in
+      rw (in_lane ends) (lane_bound (lane_end vertical steps) (last_lane vertical steps) (passed c) (omega arith))
 
--- the lane of a cursor's place
-pub lane-passed : (last : ℕ) (c : Cursor) → c.rest ≤ last → lane last (passed last c) ≡ c.lane
-lane-passed last c h = ap (λ (d : Cursor). d.lane) (at-passed last c h)
-
--- how far along its lane a cursor's place lies
-pub along-passed : (last : ℕ) (c : Cursor) → c.rest ≤ last → along last (passed last c) ≡ cond (eqb (c.lane % 2) 0) c.rest (last - c.rest)
-along-passed last c h =
-    ap (λ (d : Cursor). cond (eqb (d.lane % 2) 0) d.rest (last - d.rest)) (at-passed last c h)
+  -- and the lane of the next place is at most one further
+  pub next_within : (vertical : Bool) (steps : Steps) → c.last ≡ lane_end vertical steps → passed c < places steps → lane c.last (suc (passed c)) ≤ suc (last_lane vertical steps)
+  next_within vertical steps ends h =
+      let all = places-lanes vertical steps in
+      rw (ap (λ (n : ℕ). lane n (suc (passed c))) ends) (lane_bound (lane_end vertical steps) (suc (last_lane vertical steps)) (suc (passed c)) (omega arith))
 
 pub ruleset along_place = (along-passed)
-
--- a rest is within its lane
-pub rest-within : (last m : ℕ) → m % suc last ≤ last
-rest-within last m = let h : 0 < suc last = omega arith in omega (arith, mod-lt m h)
-
--- a lane's number is at most the place's
-pub lane-least : (last m : ℕ) → lane last m ≤ m
-lane-least last m = div-le_self m (suc last)

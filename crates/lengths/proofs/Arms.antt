@@ -8,7 +8,7 @@ use lib.ListN.{get_or}
 use denote.Enum.Declared.{tag_of}
 use types.Run.{OneOf}
 use Rattle.aries.specs.declared.block.Kind.{Kind}
-use Rattle.aries.specs.declared.block.Kind.TheVariants.{G26, G28, G29, G36, G37, G50, G70, G72, G75, G76, G92, G93, G98, Position, Lone, LetterM, LetterB, LetterU, LetterV, LetterW, Unknown, G66, G73}
+use Rattle.aries.specs.declared.block.Kind.TheVariants.{G26, G28, G29, G36, G37, G50, G70, G72, G75, G76, G92, G93, G98, Position, Lone, LetterM, LetterB, LetterU, LetterV, LetterW, G66, G73}
 use Rattle.aries.specs.contracts.block.Kind as Declared
 
 -- the place of a kind among all of them
@@ -22,10 +22,10 @@ places (k ∷ ks) = place k ∷ places ks
 -- all kinds, in the order of their declaration
 abbrev kinds : List Kind
 kinds =
-    G26 ∷ G28 ∷ G29 ∷ G36 ∷ G37 ∷ G50 ∷ G70 ∷ G72 ∷ G75 ∷ G76 ∷ G92 ∷ G93 ∷ G98 ∷ Position ∷ Lone ∷ LetterM ∷ LetterB ∷ LetterU ∷ LetterV ∷ LetterW ∷ Unknown ∷ G66 ∷ G73 ∷ []
+    G26 ∷ G28 ∷ G29 ∷ G36 ∷ G37 ∷ G50 ∷ G70 ∷ G72 ∷ G75 ∷ G76 ∷ G92 ∷ G93 ∷ G98 ∷ Position ∷ Lone ∷ LetterM ∷ LetterB ∷ LetterU ∷ LetterV ∷ LetterW ∷ G66 ∷ G73 ∷ []
 
 -- a kind stands at its place
-at_place : (k : Kind) → get_or kinds (place k) Unknown ≡ k
+at_place : (k : Kind) → get_or kinds (place k) Lone ≡ k
 at_place G26 = refl
 at_place G28 = refl
 at_place G29 = refl
@@ -46,13 +46,12 @@ at_place LetterB = refl
 at_place LetterU = refl
 at_place LetterV = refl
 at_place LetterW = refl
-at_place Unknown = refl
 at_place G66 = refl
 at_place G73 = refl
 
 -- kinds at one place are the same
 same : (k l : Kind) → place k ≡ place l → k ≡ l
-same k l e = sym (at_place k) ∙ ap (λ (n : ℕ). get_or kinds n Unknown) e ∙ at_place l
+same k l e = sym (at_place k) ∙ ap (λ (n : ℕ). get_or kinds n Lone) e ∙ at_place l
 
 -- what f gives for a kind that is one of several, where it gives the same for all of them
 pub alike : {A : Type 0} (f : Kind → A) {a : A} (k : Kind) (ks : List Kind) → map f ks ≡ map (λ (l : Kind). a) ks → OneOf (places ks) (place k) → f k ≡ a

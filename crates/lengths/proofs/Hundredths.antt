@@ -13,7 +13,7 @@ use lib.ListN.{length, get_or, set, take}
 use lib.Seq.{set-get_or, get_or-set_other}
 use borrow.Author.Tests.{eqb-false, leb-true, le-leb, not-true}
 use Rattle.aries.specs.declared.block.Kind.{Kind}
-use Rattle.aries.specs.declared.block.Kind.TheVariants.{G26, G28, G29, G36, G37, G50, G70, G72, G75, G76, G92, G93, G98, Position, Lone, LetterM, LetterB, LetterU, LetterV, LetterW, Unknown, G66, G73}
+use Rattle.aries.specs.declared.block.Kind.TheVariants.{G26, G28, G29, G36, G37, G50, G70, G72, G75, G76, G92, G93, G98, Position, Lone, LetterM, LetterB, LetterU, LetterV, LetterW, G66, G73}
 use Rattle.aries.specs.declared.reader.Setting.{Setting}
 use Rattle.aries.specs.declared.reader.Setting.TheVariants.{Hundredths, Millimetres}
 use Rattle.aries.specs.declared.word.Word.{Word}
@@ -152,7 +152,6 @@ kinds_apart LetterB = refl
 kinds_apart LetterU = refl
 kinds_apart LetterV = refl
 kinds_apart LetterW = refl
-kinds_apart Unknown = refl
 
 -- the two tests of 6
 pub both_pass : (s : Setting) (k : Kind) (w h : Letters) → (lengths_fit s k w && is_ranged h k) ≡ true → (lengths_fit s k w ≡ true) × (is_ranged h k ≡ true)

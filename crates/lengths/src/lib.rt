@@ -65,6 +65,8 @@ fn lengths_of(kind: Kind) -> &'static [u8]
     }
 }
 
+// `Sized` is a clause here and in blocks, and no invariant of words: one in hundredths may pass it.
+
 // Puts the lengths and angles of a block of a kind into hundredths, and tells whether none passes the limit that they have at
 // setting 0. At setting 1 they have hundredths as they are written.
 pub fn to_hundredths(setting: Setting, words: &mut Words, kind: Kind) -> bool

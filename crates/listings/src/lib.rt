@@ -1,13 +1,12 @@
 // What the programs share that print listings: reading a text to its end, and making its listing, with room for 4,096 entries.
 #![tactic(auto)]
 
-ghost use Rattle.std.specs.Prelude.{◌≡◌, ◌<◌, ◌≤◌, [], length, take, IfOk};
+ghost use Rattle.std.specs.Prelude.{◌≡◌, ◌<◌, ◌≤◌, length, take, IfOk};
 ghost use Rattle.std.specs.Counts.{IsPrefixLen};
 ghost use Rattle.std.specs.Io.KnownBytes.{ReadConsumes, Consumes, IsAtEnd};
 ghost use Rattle.aries.specs.Program.{expand, tally_for};
 ghost use Rattle.printing.specs.Listing.{printed};
 
-use printing::Page;
 use std::io;
 use std::io::{ErrorKind, Read};
 use tallies::FIGURES;
@@ -55,20 +54,20 @@ pub fn read_text<R: Read>(reader: &mut R, buffer: &mut [u8]) -> io::Result<usize
     Ok(done)
 }
 
-// Expands a text at the setting that a number states, with a lent list and tally, and puts the listing of what it comes to on an
-// empty page. The page is lent too, since a copy of it takes longer than most listings do.
-pub fn list_text(
+// Expands a text at the setting that a number states, with a lent list and tally, and answers the listing of what it comes to, which
+// it puts at the end of a page. The page is lent too, since a copy of it takes longer than most listings do.
+pub fn list_text<'a>(
     setting: i32,
     text: &[u8],
     list: &mut [i32],
     tally: &mut [u64; FIGURES],
-    page: &mut Page<LISTING>,
-)
-    requires list_len_bound { length list.old ≤ NUMBERS }
-    requires page_empty { page.old ≡ [] }
-    ensures listed { page.new ≡ printed (length list.old) (expand setting text.now (length list.old)) }
+    page: &'a mut [u8; LISTING],
+) -> &'a [u8]
+    requires { length list.old ≤ NUMBERS }
+    ensures listed { result.now ≡ printed (length list.old) (expand setting text.now (length list.old)) }
     ensures tallied { tally.new ≡ tally_for (expand setting text.now (length list.old)) }
 {
     let answer = tolkjirp::expand(setting, text, list, tally);
-    printing::render(page, list, tally, answer);
+    let start = printing::render(page, list, tally, answer);
+    &page[start..]
 }

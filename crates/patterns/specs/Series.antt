@@ -33,7 +33,6 @@ come g tooling r =
             tool = tooling.tool;
             memories = g.state.memories;
             spans = g.state.spans;
-            given = g.state.given;
           };
       blocks = g.blocks;
       entries = r.entries;

@@ -1,12 +1,13 @@
 ghost use Rattle.std.specs.Prelude.{◌≡◌, true, ◌<◌, ◌≤◌, pos, ◌*ℤ◌};
 ghost use Rattle.lanes.specs.Cursors.{passed};
 ghost use Rattle.aries.specs.WidePoints.{point_of, Moderate};
+ghost use Rattle.aries.specs.declared.block.Steps.{Steps};
 ghost use Rattle.aries.specs.Judging.{is_near};
+ghost use Rattle.aries.specs.Lanes.{lane_end};
 ghost use Rattle.aries.specs.Moves.{point_at, ◌⊕◌};
 ghost use Rattle.aries.specs.Patterns.{polar, turned, circle_angle, grid_offset};
-ghost use Rattle.patterns.specs.Offsets.{toward, lane_end};
+ghost use Rattle.patterns.specs.Offsets.{toward};
 
-use aries::block::Steps;
 use aries::point::{Point, WidePoint};
 use lanes::Cursor;
 use sine::Direction;
@@ -50,6 +51,7 @@ fn turned(n: u16, k: u16) -> u16
 {
     let parts = u64::from(n);
     let done = u64::from(k);
+    // two turns fit
     ((TWO_TURNS * done + parts) / (2 * parts)) as u16
 }
 
@@ -74,21 +76,11 @@ fn step_place(start: Point, pitch: Point, column: u16, row: u16) -> WidePoint
 }
 
 // The place of a cursor in a grid, whose lanes are rows or, in a vertical one, columns.
-pub fn grid_place(
-    start: Point,
-    vertical: bool,
-    pitch: Point,
-    steps: Steps,
-    cursor: Cursor,
-) -> WidePoint
-    requires { (cursor.rest ≤ lane_end vertical steps) × (cursor.lane ≤ 65535) }
-    ensures result_value { point_of result ≡ start ⊕ grid_offset vertical pitch steps (passed (lane_end vertical steps) cursor) }
+pub fn grid_place(start: Point, vertical: bool, pitch: Point, cursor: Cursor) -> WidePoint
+    requires { cursor.lane ≤ 65535 }
+    ensures result_value { (steps : Steps) → cursor.last ≡ lane_end vertical steps → point_of result ≡ start ⊕ grid_offset vertical pitch steps (passed cursor) }
     ensures moderate { Moderate result }
 {
-    let lane = cursor.lane as u16;
-    if vertical {
-        step_place(start, pitch, lane, cursor.along(steps.y))
-    } else {
-        step_place(start, pitch, cursor.along(steps.x), lane)
-    }
+    let (column, row) = cursor.column_and_row(vertical);
+    step_place(start, pitch, column, row)
 }

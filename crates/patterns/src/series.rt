@@ -111,6 +111,7 @@ impl Series {
         let start = self.start;
         let direction = sine::direction_of(i64::from(angle));
         self.punch_each(list, u32::from(count), |k| {
+            // k is below the count, as below
             places::line_place(start, pitch, direction, (k + 1) as u16)
         })
     }
@@ -162,12 +163,11 @@ impl Series {
         ensures { Comes result self (begun self) (lent list.old) (lent list.new) (series self (Grid vertical pitch steps)) }
     {
         let count = sizes::grid_hits(steps);
-        let last = sizes::lane_end(vertical, steps);
         let mut reached = self.begun();
-        let mut cursor = Cursor::first();
+        let mut cursor = Cursor::first(steps.lane_end(vertical));
         for k in 0..count {
-            cursor = cursor.next(last);
-            let place = places::grid_place(self.start, vertical, pitch, steps, cursor);
+            cursor = cursor.next();
+            let place = places::grid_place(self.start, vertical, pitch, cursor);
             reached = self.punch_next(list, place, reached)?;
         }
         Ok(reached)

@@ -1,25 +1,17 @@
-ghost use Rattle.std.specs.Prelude.{◌≡◌, suc, ◌-◌, ◌*◌, pos, ◌*ℤ◌};
+ghost use Rattle.std.specs.Prelude.{◌≡◌, ◌-◌, pos, ◌*ℤ◌};
 ghost use Rattle.aries.specs.Judging.{is_near};
+ghost use Rattle.aries.specs.Lanes.{places};
 ghost use Rattle.aries.specs.Patterns.{reach_is_near, shear_is_fit};
-ghost use Rattle.patterns.specs.Offsets.{lane_end};
 
 use aries::block::{Pattern, Steps};
 use aries::point;
 
 // How many hits a grid makes: its places but the start.
 pub fn grid_hits(steps: Steps) -> u32
-    ensures { result ≡ suc steps.x * suc steps.y - 1 }
+    ensures { result ≡ places steps - 1 }
 {
-    let columns = u64::from(steps.x) + 1;
-    let rows = u64::from(steps.y) + 1;
-    (columns * rows - 1) as u32
-}
-
-// The last place of a grid's lane: of a row, or of a column in a vertical one.
-pub fn lane_end(vertical: bool, steps: Steps) -> u16
-    ensures { result ≡ lane_end vertical steps }
-{
-    if vertical { steps.y } else { steps.x }
+    // fits: a row and a column have 65,536 places at most
+    (steps.places() - 1) as u32
 }
 
 // Whether so many pitches stay within the largest coordinate.
@@ -50,6 +42,7 @@ pub fn shear_is_fit(pattern: Pattern) -> bool
     ensures { result ≡ shear_is_fit pattern }
 {
     match pattern {
+        // the others by name, so that a new one is thought of here
         Pattern::Shear { lengths, .. } => shears::numbers::is_fit(lengths),
         Pattern::Line { .. }
         | Pattern::Arc { .. }

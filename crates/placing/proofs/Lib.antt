@@ -1,2 +1,1 @@
 pub mod AllNear
-pub mod CopyPlace

@@ -1,22 +1,10 @@
--- The places of a layout, lane by lane and by its corners.
+-- The places of a layout by its corners.
 use Rattle.std.specs.Prelude.{Bool, cond, ◌&&◌, ℕ, ◌-◌, None, Option, Some}
 use Rattle.aries.specs.declared.block.Copies.{Copies}
 use Rattle.aries.specs.declared.block.Layout.{Layout}
 use Rattle.aries.specs.declared.point.Point.{Point}
 use Rattle.aries.specs.Judging.{near}
 use Rattle.aries.specs.Layouts.{copy_count, place_at, copy_place}
-
--- ---- Lanes: G75 goes along X, row by row, G76 along Y, column by column
-
--- the last place of a lane
-abbrev pub lane_end : Layout → Copies → ℕ
-lane_end l c = cond c.vertical l.steps.y l.steps.x
-
--- the last lane
-abbrev pub last_lane : Layout → Copies → ℕ
-last_lane l c = cond c.vertical l.steps.x l.steps.y
-
--- ---- Corners
 
 -- the place of column c and row r, counted from the lower left place
 abbrev pub cell : Point → Layout → ℕ → ℕ → Point

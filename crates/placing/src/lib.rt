@@ -1,12 +1,13 @@
 // The places of a layout: where its copies lie, and in which order.
 #![tactic(auto)]
 
-ghost use Rattle.std.specs.Prelude.{◌≡◌, ◌*◌, ◌≤◌, pos, ◌+ℤ◌};
+ghost use Rattle.std.specs.Prelude.{◌≡◌, ◌-◌, ◌*◌, ◌≤◌, ◌<◌, pos, ◌+ℤ◌};
 ghost use Rattle.aries.specs.Judging.{near};
+ghost use Rattle.aries.specs.Lanes.{lane_end};
 ghost use Rattle.aries.specs.Layouts.{copy_count, from_right, from_top, facing, place_at, copy_place};
 ghost use Rattle.aries.specs.WidePoints.{point_of};
 ghost use Rattle.lanes.specs.Cursors.{passed};
-ghost use Rattle.placing.specs.Places.{lane_end, last_lane, all_near, last_copy};
+ghost use Rattle.placing.specs.Places.{all_near, last_copy};
 
 use aries::block::{Copies, Layout};
 use aries::point::{Point, WidePoint};
@@ -61,37 +62,31 @@ pub struct Places {
 
 impl Places {
     // How many they are.
-    #[tactic(auto, using(crate::proofs::CopyPlace::count_fits))]
     pub fn copy_count(self) -> u64
         ensures { result ≡ copy_count self.layout }
     {
-        let steps = self.layout.steps;
-        (u64::from(steps.x) + 1) * (u64::from(steps.y) + 1)
+        self.layout.steps.places()
     }
 
-    // The last place of a lane: of a row, or for G76 of a column.
-    pub fn lane_end(self) -> u16
-        ensures { result ≡ lane_end self.layout self.copies }
+    // The cursor of the first one. Lanes are rows, or for G76 columns.
+    pub fn first(self) -> Cursor
+        ensures last { result.last ≡ lane_end self.copies.vertical self.layout.steps }
+        ensures place { passed result ≡ 0 }
     {
-        let steps = self.layout.steps;
-        if self.copies.vertical {
-            steps.y
-        } else {
-            steps.x
+        Cursor::first(self.layout.steps.lane_end(self.copies.vertical))
+    }
+
+    // The cursor of the last one.
+    fn last(self) -> Cursor
+        ensures last { result.last ≡ lane_end self.copies.vertical self.layout.steps }
+        ensures place { passed result ≡ copy_count self.layout - 1 }
+    {
+        let last = self.layout.steps.lane_end(self.copies.vertical);
+        Cursor {
+            lane: u32::from(self.layout.steps.last_lane(self.copies.vertical)),
+            rest: last,
+            last,
         }
-    }
-
-    // The last lane.
-    fn last_lane(self) -> u32
-        ensures { result ≡ last_lane self.layout self.copies }
-    {
-        let steps = self.layout.steps;
-        let last = if self.copies.vertical {
-            steps.x
-        } else {
-            steps.y
-        };
-        u32::from(last)
     }
 
     // The place of a column and a row, counted from a corner.
@@ -107,20 +102,14 @@ impl Places {
         }
     }
 
-    // The place of the copy that a cursor stands at. Lanes are rows, or for G76 columns.
-    #[tactic(auto, using(crate::proofs::CopyPlace::place_vertical, crate::proofs::CopyPlace::place_level, aries::proofs::Lanes::along_bound))]
+    // The place of the copy that a cursor stands at.
     pub fn copy_place(self, cursor: Cursor) -> WidePoint
-        requires { (cursor.rest ≤ lane_end self.layout self.copies) × (cursor.lane ≤ last_lane self.layout self.copies) }
-        ensures { point_of result ≡ copy_place self.origin self.layout self.copies (passed (lane_end self.layout self.copies) cursor) }
+        requires last { cursor.last ≡ lane_end self.copies.vertical self.layout.steps }
+        requires place { passed cursor < copy_count self.layout }
+        ensures { point_of result ≡ copy_place self.origin self.layout self.copies (passed cursor) }
     {
-        let corner = self.copies.corner;
-        let lane = cursor.lane as u16;
-        let along = cursor.along(self.lane_end());
-        if self.copies.vertical {
-            self.place_at(corner, lane, along)
-        } else {
-            self.place_at(corner, along, lane)
-        }
+        let (column, row) = cursor.column_and_row(self.copies.vertical);
+        self.place_at(self.copies.corner, column, row)
     }
 
     // Whether all are near: the lower left one and the upper right one are, and the others lie between them.
@@ -137,11 +126,7 @@ impl Places {
         ensures { result ≡ last_copy self.origin self.layout self.copies }
     {
         if self.all_near() {
-            let last = Cursor {
-                lane: self.last_lane(),
-                rest: self.lane_end(),
-            };
-            self.copy_place(last).located()
+            self.copy_place(self.last()).located()
         } else {
             None
         }

@@ -1,5 +1,5 @@
 -- Laws of moves and of G72: what has been carried out, by where the place lies, whatever is lent.
-use Rattle.std.specs.Prelude.{Ok, Some, None}
+use Rattle.std.specs.Prelude.{Ok, Option, Some}
 use mathlib.Core.Path.{◌≡◌, refl, sym}
 use mathlib.Core.Bool.{Bool, true, false, cond}
 use Prim.Native.Nat.{ℕ}
@@ -18,7 +18,7 @@ use Rattle.aries.specs.Runs.{Lent, Carried}
 use Rattle.aries.specs.WidePoints.{located}
 use Rattle.aries.proofs.Judging.{covers-near}
 use Rattle.aries.proofs.Runs.{ran-refused, ran_no_entry}
-use Rattle.aries.proofs.WidePoints.{located-at, located_far}
+use Rattle.aries.proofs.WidePoints.{located-at}
 
 module _ (f : Frame) (line : ℕ) (a : Axes) where
   -- ---- A move
@@ -40,7 +40,7 @@ module _ (f : Frame) (line : ℕ) (a : Axes) where
   outside false rest = refl
 
   -- it is refused out of the range
-  pub move_outside : (t : ℕ) (g : Progress) {l : Lent} → false ≡ in_range f (seen f (end g))
+  pub move_outside : (t : Option ℕ) (g : Progress) {l : Lent} → false ≡ in_range f (seen f (end g))
       → Carried (refused (cond (near (seen f (end g))) OutOfRange TooFar) line) f l l g (λ j. move j f line a t)
   unfolding move judging
   move_outside t g c =
@@ -49,7 +49,7 @@ module _ (f : Frame) (line : ℕ) (a : Axes) where
       rw (o, ← c, outside (near (seen f (end g))) (no_entry left)) ran-refused
 
   -- and goes there within it, where no end is too far away
-  pub move_inside : (t : ℕ) (g : Progress) {l : Lent} → true ≡ in_range f (seen f (end g))
+  pub move_inside : (t : Option ℕ) (g : Progress) {l : Lent} → true ≡ in_range f (seen f (end g))
       → Carried (Ok (with_state g (standing_at (choosing g.state t) (end g)))) f l l g (λ j. move j f line a t)
   unfolding move
   move_inside t g c =
@@ -57,13 +57,7 @@ module _ (f : Frame) (line : ℕ) (a : Axes) where
 
   -- ---- G72
 
-  -- it is refused where 15 finds no point,
-  pub origin_far : (g : Progress) {l : Lent} → None ≡ located (end g)
-      → Carried (refused TooFar line) f l l g (λ j. set_pattern_origin j f line a)
-  unfolding set_pattern_origin
-  origin_far g e = rw (located_far (end g) e) ran-refused
-
-  -- and the point that 15 finds waits
+  -- the point that 15 finds waits
   pub origin_near : (g : Progress) {l : Lent} {origin : Point} → Some origin ≡ located (end g)
       → Carried (Ok (with_state g (waiting_for g.state (Some origin)))) f l l g (λ j. set_pattern_origin j f line a)
   unfolding set_pattern_origin

@@ -1,4 +1,3 @@
 pub mod Ends
 pub mod Enter
-pub mod InLine
 pub mod Punch

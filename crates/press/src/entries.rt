@@ -1,6 +1,6 @@
 ghost use Rattle.std.specs.Prelude.{◌≡◌};
 ghost use Rattle.aries.specs.Moves.{stop};
-ghost use Rattle.aries.specs.Runs.{lent, put, Carried};
+ghost use Rattle.aries.specs.Runs.{lent, put, leaving, Carried};
 ghost use Rattle.press.specs.Entries.{place_for, list_with};
 
 use aries::entry::Entry;
@@ -35,17 +35,18 @@ pub fn enter(list: &mut [i32], job: Job, entry: Entry, entries: usize) -> Result
 }
 
 // M00, or with optional M01: a stop, which needs no tool and leaves the state as it is.
+#[tactic(auto, unfolding(aries::specs::Runs::over))]
 pub fn stop(
     list: &mut [i32],
     frame: Frame,
     line: u64,
     optional: bool,
-    mut progress: Progress,
-) -> Result<Progress, Refused>
-    ensures { Carried result frame (lent list.old) (lent list.new) progress (λ j. stop j line optional) }
+    progress: &mut Progress,
+) -> Result<(), Refused>
+    ensures { Carried (leaving result progress.new) frame (lent list.old) (lent list.new) progress.old (λ j. stop j line optional) }
 {
     let made = enter(list, frame.job, Entry::Stop(optional), progress.entries);
     made.map_err(|refusal| refusal.at(line))?;
     progress.entries += 1;
-    Ok(progress)
+    Ok(())
 }

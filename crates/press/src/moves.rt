@@ -3,7 +3,7 @@ ghost use Rattle.signed.specs.Signed.{wide_limit};
 ghost use Rattle.aries.specs.WidePoints.{point_of, Moderate};
 ghost use Rattle.aries.specs.Moves.{axis_target, target, position, move, set_pattern_origin};
 ghost use Rattle.aries.specs.Steady.{Steady};
-ghost use Rattle.aries.specs.Runs.{Lent, lent, Carried};
+ghost use Rattle.aries.specs.Runs.{Lent, lent, leaving, Carried};
 
 use crate::hits;
 use aries::block::Axes;
@@ -27,8 +27,8 @@ fn axis_target(value: Option<i32>, incremental: bool, origin: i32, current: i32)
 }
 
 // The place that a block's X and Y name.
-fn target(frame: Frame, state: State, axes: Axes) -> WidePoint
-    ensures result_value { point_of result ≡ target frame state axes }
+fn target(frame: Frame, state: &State, axes: Axes) -> WidePoint
+    ensures result_value { point_of result ≡ target frame state.now axes }
     ensures moderate { Moderate result }
 {
     let origin = frame.origin;
@@ -40,22 +40,21 @@ fn target(frame: Frame, state: State, axes: Axes) -> WidePoint
 }
 
 // A position block: a hit at the place that it names, with its tool.
+#[tactic(auto, unfolding(aries::specs::Moves::position))]
 pub fn position(
     list: &mut [i32],
     frame: Frame,
     line: u64,
     axes: Axes,
-    tool: u8,
-    progress: Progress,
-) -> Result<Progress, Refused>
+    tool: Option<u8>,
+    progress: &mut Progress,
+) -> Result<(), Refused>
     requires { Steady 0 frame }
-    ensures { Carried result frame (lent list.old) (lent list.new) progress (λ j. position j frame line axes tool) }
+    ensures { Carried (leaving result progress.new) frame (lent list.old) (lent list.new) progress.old (λ j. position j frame line axes tool) }
 {
-    let state = progress.state;
-    let place = target(frame, state, axes);
-    let chosen = state.choosing(tool);
-    let ready = progress.with_state(chosen.dropping());
-    hits::punch(list, frame, line, place, ready)
+    let place = target(frame, &progress.state, axes);
+    progress.state = progress.state.choosing(tool).dropping();
+    hits::punch(list, frame, line, place, progress)
 }
 
 // A position block with G70: a move to the place that it names, whatever is lent. It is judged by 15 and 16 where the place
@@ -64,36 +63,34 @@ pub fn move_to(
     frame: Frame,
     line: u64,
     axes: Axes,
-    tool: u8,
-    progress: Progress,
-) -> Result<Progress, Refused>
+    tool: Option<u8>,
+    progress: &mut Progress,
+) -> Result<(), Refused>
     requires { Steady 0 frame }
-    ensures { (l : Lent) → Carried result frame l l progress (λ j. move j frame line axes tool) }
+    ensures { (l : Lent) → Carried (leaving result progress.new) frame l l progress.old (λ j. move j frame line axes tool) }
 {
-    let state = progress.state;
-    let place = target(frame, state, axes);
+    let place = target(frame, &progress.state, axes);
     let seen = frame.seen(place);
     if !frame.covers(seen) {
         return Err(hits::out_of_range(seen).at(line));
     }
     let end = place.narrow();
-    let chosen = state.choosing(tool);
-    Ok(progress.with_state(chosen.standing_at(end)))
+    progress.state = progress.state.choosing(tool).standing_at(end);
+    Ok(())
 }
 
 // G72: the place that it names waits as the origin of the next pattern, whatever is lent.
+#[tactic(auto, unfolding(aries::specs::Moves::set_pattern_origin), using(aries::proofs::WidePoints::located_far))]
 pub fn set_pattern_origin(
     frame: Frame,
     line: u64,
     axes: Axes,
-    progress: Progress,
-) -> Result<Progress, Refused>
-    ensures { (l : Lent) → Carried result frame l l progress (λ j. set_pattern_origin j frame line axes) }
+    progress: &mut Progress,
+) -> Result<(), Refused>
+    ensures { (l : Lent) → Carried (leaving result progress.new) frame l l progress.old (λ j. set_pattern_origin j frame line axes) }
 {
-    let state = progress.state;
-    let place = target(frame, state, axes);
-    match place.located() {
-        Some(origin) => Ok(progress.with_state(state.waiting_at(origin))),
-        None => Err(Refusal::TooFar.at(line)),
-    }
+    let place = target(frame, &progress.state, axes);
+    let origin = place.located().ok_or(Refusal::TooFar.at(line))?;
+    progress.state = progress.state.waiting_at(origin);
+    Ok(())
 }

@@ -1,7 +1,7 @@
 -- Laws of decimal digits: they are those that the library writes, so the last one comes after those of the tenth part, and there
 -- are few. Assumes nothing.
 use Rattle.std.proofs.Common.{FitsSigned, w32, ◌≡◌, refl, sym, ap, ◌∙◌, List, [], ◌∷◌, ◌++◌, ℕ, zero, suc, ◌+◌, ◌/◌, ◌%◌, ◌^◌, ◌≤◌, ◌<◌, ℤ, pos, negsuc, length, arith}
-use Rattle.std.proofs.lemmas.Fmt.{decimal_by_steps, decimal_digit, decimal_step, length-decimal-le}
+use Rattle.std.proofs.lemmas.Fmt.{decimal_by_steps, decimal_digit, decimal_step, decimal_nonempty, length-decimal-le}
 use Rattle.std.proofs.lemmas.List.{length-append}
 use Rattle.std.specs.Fmt as written
 use borrow.Author.Tests.{lt-ltb, le-ltb}
@@ -30,8 +30,14 @@ written_so : (n : ℕ) → n < 2 ^ 64 → decimal n ≡ written.decimal n
 unfolding decimal Enough
 written_so n small = decimal_by_steps Enough (λ n h k i. digits-one k n h) enough_more n small n (omega arith)
 
-pub decimal_one : (n : ℕ) → n < 10 → decimal n ≡ digit n ∷ []
+decimal_one : (n : ℕ) → n < 10 → decimal n ≡ digit n ∷ []
 decimal_one n h = written_so n (omega arith) ∙ decimal_digit n h
+
+-- a number below ten is its last digit
+pub decimal_last : (n : ℕ) → n < 10 → decimal n ≡ digit (n % 10) ∷ []
+decimal_last n h =
+    let e : n ≡ n % 10 = omega arith in
+    decimal_one n h ∙ ap (λ d. digit d ∷ []) e
 
 -- the last digit comes after those of the tenth part
 pub decimal_more : (n : ℕ) → 10 ≤ n → n < 2 ^ 64 → decimal n ≡ decimal (n / 10) ++ (digit (n % 10) ∷ [])
@@ -40,12 +46,13 @@ decimal_more n h small =
 
 -- ---- how many
 
-pub length_one : (n : ℕ) → n < 10 → length (decimal n) ≡ 1
-length_one n h = ap length (decimal_one n h)
-
 -- one more than its tenth part has
 pub length_more : (n : ℕ) → 10 ≤ n → n < 2 ^ 64 → length (decimal n) ≡ length (decimal (n / 10)) + 1
 length_more n h small = ap length (decimal_more n h small) ∙ length-append (decimal (n / 10)) (digit (n % 10) ∷ [])
+
+-- there is one at least
+pub decimal_some : (n : ℕ) → n < 2 ^ 64 → 0 < length (decimal n)
+decimal_some n h = rw (written_so n h) (decimal_nonempty n h)
 
 -- below a power of ten, no more digits than the power says
 decimal-short : (k n : ℕ) → 0 < k → n < 10 ^ k → n < 2 ^ 64 → length (decimal n) ≤ k

@@ -1,8 +1,7 @@
--- Numbers as decimal digits, in the bytes that stand for them.
+-- Numbers as decimal digits, in the bytes that stand for them. The library's definition goes to 64 digits and no further; these are
+-- the digits of every number.
 use Rattle.std.specs.Prelude.{true, false, List, [], ◌∷◌, ◌++◌, ℕ, zero, suc, ◌+◌, ◌/◌, ◌%◌, ltb, ℤ, pos, negsuc}
-
-abbrev pub minus : ℕ
-minus = 45
+use Rattle.aries.specs.Text.{minus}
 
 -- the byte of a digit from 0 to 9
 abbrev pub digit : ℕ → ℕ

@@ -1,3 +1,4 @@
+pub mod Buffers
 pub mod Decimals
 pub mod Listing
 pub mod Examples

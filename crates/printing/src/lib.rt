@@ -2,51 +2,54 @@
 // tool used, or one line for a refusal.
 #![tactic(auto)]
 
+mod buffer; // bytes put at the end of a buffer
 mod line; // the lines of a listing
 mod number; // numbers in decimal digits
-mod page; // bytes put one after another
 mod tool; // the lines of the tools used
 
-ghost use Rattle.std.specs.Prelude.{◌≡◌, ◌++◌, ◌+◌, ◌*◌, ◌≤◌, length};
+ghost use Rattle.std.specs.Prelude.{suc, ◌+◌, ◌*◌, ◌≤◌, length};
+ghost use Rattle.printing.specs.Buffers.{Ends};
 ghost use Rattle.printing.specs.Examples.{Examples, PlatePrinted, StopsPrinted, ToolsPrinted};
 ghost use Rattle.printing.specs.Listing.{entry_lines, listing, longest_line, listing_room};
 
-pub use crate::page::Page;
+pub use crate::line::render_refusal;
+use crate::line::{put_entry, put_head};
+use crate::tool::put_tools;
 use aries::refusal::Refused;
 use tallies::FIGURES;
 
-impl<const N: usize> Page<N> {
-    // The lines of the first entries.
-    fn push_entries(&mut self, list: &[i32], count: usize)
-        requires { length self.old + longest_line * count ≤ N }
-        ensures put { self.new ≡ self.old ++ entry_lines list.now count }
-        ensures bound { length self.new ≤ length self.old + longest_line * count }
-    {
-        for i in 0..count {
-            self.push_entry(list, i);
-        }
+// The lines of the first entries.
+fn put_entries(out: &mut [u8], list: &[i32], count: usize) -> usize
+    requires { longest_line * suc count ≤ length out.old }
+    ensures put { Ends (entry_lines list.now count) out.old result out.new }
+    ensures bound { longest_line ≤ result }
+{
+    let mut end = out.len();
+    for i in (0..count).rev() {
+        end = put_entry(&mut out[..end], list, i);
     }
+    end
 }
 
-// Puts the listing on a page. There is room where the page has 72 bytes for the head, for each entry and for each of 99 tools; no
-// line is longer.
-#[tactic(auto, unfolding(crate::specs::Listing::listing))]
-pub fn render<const N: usize>(
-    page: &mut Page<N>,
+// Puts the listing at the end of a buffer and answers where it starts. The buffer has 72 bytes for the head, for each entry
+// and for each of 99 tools; no line is longer.
+#[tactic(auto, using(crate::proofs::Buffers::in_front), unfolding(crate::specs::Listing::listing))]
+pub fn render(
+    out: &mut [u8],
     list: &[i32],
     tally: &[u64; FIGURES],
     answer: Result<usize, Refused>,
-)
-    requires { length page.old + listing_room answer ≤ N }
-    ensures { page.new ≡ page.old ++ listing answer list.now tally.now }
+) -> usize
+    requires { listing_room answer ≤ length out.old }
+    ensures { Ends (listing answer list.now tally.now) out.old result out.new }
 {
     match answer {
         Ok(count) => {
-            page.push_head(count);
-            page.push_entries(list, count);
-            page.push_tools(tally);
+            let tools = put_tools(out, tally);
+            let entries = put_entries(&mut out[..tools], list, count);
+            put_head(&mut out[..entries], count)
         }
-        Err(refused) => page.push_refusal(refused.refusal.number(), refused.line),
+        Err(refused) => render_refusal(out, refused.refusal.number(), refused.line),
     }
 }
 

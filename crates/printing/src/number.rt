@@ -1,50 +1,34 @@
-// Numbers in decimal digits, on a page. The library writes them by `write!`, whose contract says nothing where it answers an
-// error, and nothing says that it answers none; a listing can't fail.
-ghost use Rattle.std.specs.Prelude.{◌≡◌, ◌++◌, ◌+◌, ◌≤◌, length, take};
+// Numbers in decimal digits, put at the end of a buffer. The library writes them by `write!`, whose contract says nothing where it
+// answers an error, and nothing says that it answers none; a listing can't fail.
+ghost use Rattle.std.specs.Prelude.{◌≤◌, length};
+ghost use Rattle.printing.specs.Buffers.{Ends};
 ghost use Rattle.printing.specs.Decimals.{decimal, signed_decimal};
 
-use crate::page::Page;
+use crate::buffer::put_byte;
 
-// The most digits of a number of 64 bits.
-const MOST_DIGITS: usize = 20;
-
-// Puts the digits of a number at the start of a buffer, those of its tenth part and then the last, and answers how many they are.
-#[tactic(auto, using(crate::proofs::Decimals::length_one, crate::proofs::Decimals::length_more))]
-fn put_digits(buffer: &mut [u8], n: u64) -> usize
-    requires { length (decimal n) ≤ length buffer.old }
-    ensures count { result ≡ length (decimal n) }
-    ensures digits { take result buffer.new ≡ decimal n }
+// A number without a sign: its last digit, and in front of it those of its tenth part.
+pub fn put_decimal(out: &mut [u8], n: u64) -> usize
+    requires { length (decimal n) ≤ length out.old }
+    ensures { Ends (decimal n) out.old result out.new }
 {
+    // a digit fits
+    let last = put_byte(out, b'0' + (n % 10) as u8);
     if n < 10 {
-        buffer[0] = b'0' + n as u8;
-        return 1;
+        return last;
     }
-    let before = put_digits(buffer, n / 10);
-    buffer[before] = b'0' + (n % 10) as u8;
-    before + 1
+    put_decimal(&mut out[..last], n / 10)
 }
 
-impl<const N: usize> Page<N> {
-    // A number without a sign.
-    #[tactic(auto, using(crate::proofs::Decimals::decimal_word))]
-    pub(crate) fn push_decimal(&mut self, n: u64)
-        requires { length self.old + length (decimal n) ≤ N }
-        ensures { self.new ≡ self.old ++ decimal n }
-    {
-        let mut digits = [0u8; MOST_DIGITS];
-        let count = put_digits(&mut digits, n);
-        self.push_text(&digits[..count]);
-    }
-
-    // A number, with a minus where it is below zero.
-    #[tactic(auto, unfolding(crate::specs::Decimals::signed_decimal))]
-    pub(crate) fn push_signed(&mut self, a: i32)
-        requires { length self.old + length (signed_decimal a) ≤ N }
-        ensures { self.new ≡ self.old ++ signed_decimal a }
-    {
-        if a < 0 {
-            self.push(b'-');
-        }
-        self.push_decimal(u64::from(a.unsigned_abs()));
+// A number, with a minus where it is below zero.
+#[tactic(auto, using(crate::proofs::Buffers::in_front), unfolding(crate::specs::Decimals::signed_decimal))]
+pub fn put_signed(out: &mut [u8], a: i32) -> usize
+    requires { length (signed_decimal a) ≤ length out.old }
+    ensures { Ends (signed_decimal a) out.old result out.new }
+{
+    let start = put_decimal(out, u64::from(a.unsigned_abs()));
+    if a < 0 {
+        put_byte(&mut out[..start], b'-')
+    } else {
+        start
     }
 }

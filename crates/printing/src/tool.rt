@@ -1,57 +1,64 @@
-// The lines of the tools used, on a page.
-ghost use Rattle.std.specs.Prelude.{◌≡◌, ◌++◌, ◌+◌, ◌*◌, ◌≤◌, ◌<◌, length};
+// The lines of the tools used, put at the end of a buffer.
+ghost use Rattle.std.specs.Prelude.{◌+◌, ◌*◌, ◌≤◌, ◌<◌, length};
 ghost use Rattle.aries.specs.Numbers.{last_tool};
+ghost use Rattle.printing.specs.Buffers.{Ends};
 ghost use Rattle.printing.specs.Listing.{figure_field, tool_line, used_line, tool_lines, longest_line};
 
-use crate::page::Page;
-use tallies::{FIGURES, LAST_TOOL, TOOL_FIGURES};
+use crate::buffer::put_byte;
+use crate::number::put_decimal;
+use aries::state::LAST_TOOL;
+use tallies::{FIGURES, TOOL_FIGURES};
 
-impl<const N: usize> Page<N> {
-    // A space and a figure of the tally.
-    fn push_figure(&mut self, figure: u64)
-        requires { length self.old + 21 ≤ N }
-        ensures put { self.new ≡ self.old ++ figure_field figure }
-        ensures bound { length self.new ≤ length self.old + 21 }
-    {
-        self.push(b' ');
-        self.push_decimal(figure);
-    }
+// A space and a figure of the tally.
+#[tactic(auto, using(crate::proofs::Decimals::decimal_word, crate::proofs::Buffers::in_front))]
+fn put_figure(out: &mut [u8], figure: u64) -> usize
+    requires { 21 ≤ length out.old }
+    ensures put { Ends (figure_field figure) out.old result out.new }
+    ensures bound { length out.old ≤ result + 21 }
+{
+    let number = put_decimal(out, figure);
+    put_byte(&mut out[..number], b' ')
+}
 
-    // The line of a tool that i others come before. A chunk of three figures would need the tool's number beside it.
-    #[tactic(auto, using(crate::proofs::Decimals::decimal_tool), unfolding(crate::specs::Listing::tool_line))]
-    fn push_tool(&mut self, tally: &[u64; FIGURES], i: usize)
-        requires i_lt_last_tool { i < last_tool }
-        requires room { length self.old + longest_line ≤ N }
-        ensures put { self.new ≡ self.old ++ tool_line tally.now i }
-        ensures bound { length self.new ≤ length self.old + longest_line }
-    {
-        let at = TOOL_FIGURES * i;
-        self.push_decimal((i + 1) as u64);
-        self.push_figure(tally[at]);
-        self.push_figure(tally[at + 1]);
-        self.push_figure(tally[at + 2]);
-        self.push(b'\n');
-    }
+// The line of a tool that i others come before; its figures go by index, as they do in the definition.
+#[tactic(auto, using(crate::proofs::Decimals::decimal_tool, crate::proofs::Buffers::in_front), unfolding(crate::specs::Listing::tool_line))]
+fn put_tool(out: &mut [u8], tally: &[u64; FIGURES], i: usize) -> usize
+    requires i_lt_last_tool { i < last_tool }
+    requires room { longest_line ≤ length out.old }
+    ensures put { Ends (tool_line tally.now i) out.old result out.new }
+    ensures bound { length out.old ≤ result + longest_line }
+{
+    let at = TOOL_FIGURES * i;
+    let feed = put_byte(out, b'\n');
+    let last = put_figure(&mut out[..feed], tally[at + 2]);
+    let first = put_figure(&mut out[..last], tally[at + 1]);
+    let hits = put_figure(&mut out[..first], tally[at]);
+    // usize has no From into u64
+    put_decimal(&mut out[..hits], (i + 1) as u64)
+}
 
-    // The same where the tool has hits, else nothing.
-    fn push_used(&mut self, tally: &[u64; FIGURES], i: usize)
-        requires i_lt_last_tool { i < last_tool }
-        requires room { length self.old + longest_line ≤ N }
-        ensures put { self.new ≡ self.old ++ used_line tally.now i }
-        ensures bound { length self.new ≤ length self.old + longest_line }
-    {
-        if 0 < tally[TOOL_FIGURES * i] {
-            self.push_tool(tally, i);
-        }
+// The same where the tool has hits, else nothing.
+fn put_used(out: &mut [u8], tally: &[u64; FIGURES], i: usize) -> usize
+    requires i_lt_last_tool { i < last_tool }
+    requires room { longest_line ≤ length out.old }
+    ensures put { Ends (used_line tally.now i) out.old result out.new }
+    ensures bound { length out.old ≤ result + longest_line }
+{
+    if 0 < tally[TOOL_FIGURES * i] {
+        return put_tool(out, tally, i);
     }
+    out.len()
+}
 
-    // The lines of all tools used.
-    pub(crate) fn push_tools(&mut self, tally: &[u64; FIGURES])
-        requires { length self.old + longest_line * last_tool ≤ N }
-        ensures { self.new ≡ self.old ++ tool_lines tally.now }
-    {
-        for i in 0..usize::from(LAST_TOOL) {
-            self.push_used(tally, i);
-        }
+// The lines of all tools used.
+pub fn put_tools(out: &mut [u8], tally: &[u64; FIGURES]) -> usize
+    requires { longest_line * last_tool ≤ length out.old }
+    ensures put { Ends (tool_lines tally.now) out.old result out.new }
+    ensures bound { length out.old ≤ result + longest_line * last_tool }
+{
+    let mut end = out.len();
+    for i in (0..usize::from(LAST_TOOL)).rev() {
+        end = put_used(&mut out[..end], tally, i);
     }
+    end
 }

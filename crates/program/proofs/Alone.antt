@@ -1,107 +1,104 @@
 -- Laws of what is ahead where only G92 may come: the end of the text, or a block, which is refused or begins.
-use Rattle.std.specs.Prelude.{Result, Ok, Err, None}
+use Rattle.std.specs.Prelude.{Ok, Err, Some, None}
 use mathlib.Core.Path.{◌≡◌, refl, sym, ap, subst, ◌∙◌}
-use mathlib.Core.Bool.{Bool, true, false, not, ◌||◌}
 use mathlib.Core.List.{List}
 use Prim.Native.Nat.{ℕ, ◌+◌}
 use native.Mathlib.Omega.{arith}
 use lib.ListN.{length, drop}
-use Rattle.aries.specs.declared.block.Instruction.{Instruction}
 use Rattle.aries.specs.declared.location.Location.{Location}
-use Rattle.aries.specs.declared.macros.Macros.{Macros}
 use Rattle.aries.specs.declared.reader.Reader.{Reader}
-use Rattle.aries.specs.declared.refusal.Refusal.{Refusal}
-use Rattle.aries.specs.declared.refusal.Refusal.TheVariants.{BlocksSpent}
 use Rattle.aries.specs.declared.refusal.Refused.{Refused}
-use Rattle.aries.specs.declared.setup.Setup.{Setup}
-use Rattle.aries.specs.declared.setup.Stage.{Stage}
+use Rattle.aries.specs.declared.setup.Program.{Program}
+use Rattle.aries.specs.declared.state.Frame.{Frame}
 use Rattle.aries.specs.declared.state.Progress.{Progress}
-use Rattle.aries.specs.Outcome.{Out, refused, in_line}
-use Rattle.aries.specs.Entries.{and_then}
-use Rattle.aries.specs.Judging.{limits, room}
-use Rattle.aries.specs.Macros.{begun}
+use Rattle.aries.specs.Outcome.{Out, ◌>>=◌}
+use Rattle.aries.specs.Judging.{Judging, limits}
+use Rattle.aries.specs.Macros.{Begun, begin}
+use Rattle.aries.specs.Program.{with_progress}
 use Rattle.aries.specs.Reader.{reader_of}
 use Rattle.aries.specs.Runs.{Lent}
 use Rattle.aries.specs.Setup.{ordinary_frame}
-use Rattle.aries.specs.Steady.{GivenNear}
-use Rattle.aries.proofs.Outcomes.{refused≢done, err_as}
-use Rattle.text.specs.Lines.{blanks}
+use Rattle.aries.proofs.Outcomes.{err≢ok, ok_injective}
+use Rattle.aries.proofs.Given.{begin-near}
+use Rattle.text.specs.Lines.{line_at, blanks}
+use Rattle.decode.proofs.NearCalls.{calls_near}
 use Rattle.text.proofs.Lines.{line-inside, line-goes_on}
-use Rattle.decode.proofs.Decoding.{decoded-instruction}
 use Rattle.stretches.specs.declared.Ahead.{Ahead}
-use Rattle.stretches.specs.Lookahead.{past_blanks, ahead}
-use Rattle.stretches.proofs.Lookahead.{Meets, ahead_nothing}
+use Rattle.stretches.specs.Lookahead.{past_blanks, ahead, Known}
+use Rattle.stretches.specs.Stretches.{begin_at}
+use Rattle.stretches.proofs.Begins.{begin_at-ok}
+use Rattle.stretches.proofs.Lookahead.{ahead-block, ahead_nothing}
+use Rattle.stretches.proofs.Stretches.{line_end_at}
+use Rattle.stretches.proofs.Turns.{known_ahead}
 use Rattle.turns.specs.declared.turn.Next.TheVariants.{Line}
-use Rattle.turns.specs.declared.turn.Turn.{Turn}
-use Rattle.turns.specs.Turns.{program, placed, lines_from, Alone, Settles}
+use Rattle.turns.specs.Turns.{Turn, lines_from, Alone, Settles}
 use Rattle.turns.proofs.Placed.{not_storing}
 use Rattle.program.specs.Lines.{InText, Beyond, Leads, Turns}
 use Rattle.program.proofs.Turns.{leads_line, turns_settled}
-use Rattle.program.proofs.RunFrom.{counted_at, text_end, skip, block_spent, block_refused, block-begun}
+use Rattle.program.proofs.RunFrom.{text_end, skip, begun_then, lines_begun}
 
-module _ (t : List ℕ) (from : Location) (stage : Stage) (s : Setup) (g : Progress) (p : InText t from) where
+-- ---- A block that has begun
+
+-- at a place of a text
+begun-at :
+    (j : Judging) (f : Frame) (t : List ℕ) (at : Location) (g : Progress) {b : Begun} {end : Location}
+    → begin_at j f t at g ≡ Ok (b, end) → begin j f at.line (line_at t at.offset) g ≡ Ok b
+begun-at j f t at g {b} {end} is = go (begin j f at.line (line_at t at.offset) g) is
+  where
+    go : (o : Out Begun) → ◌>>=◌ {B = Begun × Location} o (λ x. Ok (x, line_end_at t at)) ≡ Ok (b, end) → o ≡ Ok b
+    go (Ok x) e = ap (λ (r : Begun × Location). Ok r.0) (ok_injective (x, line_end_at t at) (b, end) e)
+    go (Err r) e = absurd (err≢ok r (b, end) e)
+
+-- ---- What is ahead
+
+module _ (t : List ℕ) (from : Location) (p : Program) (i : InText t from) where
+  abbrev frame : Frame
+  frame = ordinary_frame p.setup
+
+  abbrev reader : Reader
+  reader = reader_of frame p.progress.state
+
   -- no block is left
-  pub leads-end :
-      (r : Reader) → ahead r t from ≡ None → (l : Lent)
-      → Leads (record { stage = stage; setup = s; progress = g; next = Line (record { offset = length t; line = from.line }) }) t from stage s g l l
-  leads-end r e l =
+  pub leads-end : ahead reader t from ≡ None → (l : Lent) → Leads (record { program = p; next = Line (record { offset = length t; line = from.line }) }) t from p l l
+  leads-end e =
+      let j = limits p.setup.job in
       let place : Location = record { offset = length t; line = from.line } in
-      leads_line t from stage s g refl (record { further = p.inside; inside = omega arith; numbered = omega (arith, p.inside, p.numbered) })
-      (λ m.
-      text_end (limits s.job) t place (program stage s m g) (omega arith)
-      ∙ sym (skip (limits s.job) t from (program stage s m g) ∙ text_end (limits s.job) t (past_blanks t from) (program stage s m g) (ahead_nothing r t from e)))
-      l
+      leads_line t from p refl refl (record { further = i.inside; inside = omega arith; numbered = omega (arith, i.inside, i.numbered) })
+      (text_end j t place p (omega arith) ∙ sym (skip j t from p ∙ text_end j t (past_blanks t from) p (ahead_nothing reader t from e)))
 
   -- a block is ahead
-  module _ (alone : Alone stage) {x : Ahead} (met : Meets (reader_of (ordinary_frame s) g.state) t from x) where
-    skipped : (m : Macros) → lines_from (limits s.job) t from (program stage s m g) ≡ lines_from (limits s.job) t x.at (program stage s m g)
-    skipped m = skip (limits s.job) t from (program stage s m g) ∙ ap (λ (place : Location). lines_from (limits s.job) t place (program stage s m g)) (sym met.past)
+  module _ (alone : Alone p.stage) {x : Ahead} (is : ahead reader t from ≡ Some x) where
+    pub ahead-known : Known reader t x
+    ahead-known = known_ahead reader t from (Some x) (sym is) (omega (arith, i.short, i.inside, i.numbered))
 
-    -- whether it may come
-    abbrev may_come : Bool
-    may_come = not (counted_at t x.at.offset) || room (limits s.job).blocks g.blocks
+    begins : lines_from (limits p.setup.job) t from p ≡ begun_then (limits p.setup.job) t p (begin_at (limits p.setup.job) frame t x.at p.progress)
+    begins =
+        let j = limits p.setup.job in
+        skip j t from p
+        ∙ ap (λ (place : Location). lines_from j t place p) (sym (ahead-block reader t from x is).past)
+        ∙ lines_begun j t x.at p ahead-known.inside ahead-known.block (not_storing p.stage alone)
 
-    -- one block too many
-    pub ahead-spent : may_come ≡ false → (m : Macros) → lines_from (limits s.job) t from (program stage s m g) ≡ refused BlocksSpent x.at.line
-    ahead-spent q m = skipped m ∙ block_spent (limits s.job) t x.at stage s m g met.inside met.block (not_storing stage alone) q
+    -- it is refused
+    pub ahead-refused : {e : Refused} → begin_at (limits p.setup.job) frame t x.at p.progress ≡ Err e → lines_from (limits p.setup.job) t from p ≡ Err e
+    ahead-refused e = begins ∙ ap (begun_then (limits p.setup.job) t p) e
 
-    module _ (may : may_come ≡ true) where
-      -- the line is refused
-      pub ahead-refused :
-          {e : Refused} → in_line x.at.line x.decoded ≡ Err e → (m : Macros) → lines_from (limits s.job) t from (program stage s m g) ≡ Err e
-      ahead-refused {e} told m = go x.decoded refl told
-        where
-          go :
-              (d : Result (Instruction × ℕ) Refusal) → x.decoded ≡ d → in_line x.at.line d ≡ Err e
-              → lines_from (limits s.job) t from (program stage s m g) ≡ Err e
-          go (Ok i) q k = absurd (refused≢done e i (sym k))
-          go (Err refusal) q k =
-              skipped m
-              ∙ block_refused (limits s.job) t x.at stage s m g met.inside met.block (not_storing stage alone) may refusal (sym met.decoded ∙ q)
-              ∙ ap (λ (r : Refused). Err r) (err_as _ e k)
+    -- its line ends further on
+    end_beyond : Beyond t from (line_end_at t x.at)
+    end_beyond =
+        let past = (ahead-block reader t from x is).past in
+        let a : x.at.offset ≡ from.offset + blanks (drop from.offset t) = ap (λ (l : Location). l.offset) past in
+        let b : x.at.line ≡ from.line + blanks (drop from.offset t) = ap (λ (l : Location). l.line) past in
+        let k = line-goes_on t x.at.offset ahead-known.inside ahead-known.block in
+        let w = line-inside t x.at.offset (omega (arith, ahead-known.inside)) in
+        record { further = omega (arith, a, k); inside = omega (arith, w); numbered = omega (arith, a, b, i.numbered) }
 
-      module _ (i : Instruction) (offset : ℕ) (d : x.decoded ≡ Ok (i, offset)) where
-        abbrev end : Location
-        end = record { offset = offset; line = x.at.line }
-
-        -- its line ends further on
-        end_beyond : Beyond t from end
-        end_beyond =
-            let e = (decoded-instruction (reader_of (ordinary_frame s) g.state) t x.at.offset i offset (sym met.decoded ∙ d)).1 in
-            let a : x.at.offset ≡ from.offset + blanks (drop from.offset t) = ap (λ (l : Location). l.offset) met.past in
-            let b : x.at.line ≡ from.line + blanks (drop from.offset t) = ap (λ (l : Location). l.line) met.past in
-            let k = line-goes_on t x.at.offset met.inside met.block in
-            let w = line-inside t x.at.offset (omega (arith, met.inside)) in
-            record { further = omega (arith, a, e, k); inside = omega (arith, e, w); numbered = omega (arith, a, b, e, p.numbered) }
-
-        -- it begins, and is settled
-        pub ahead_begun :
-            {begins : Progress} (out : Out Turn) → begins ≡ begun (counted_at t x.at.offset) i.measure g → Settles out end i.block stage s begins → (l : Lent)
-            → Turns out t from stage s g l l
-        ahead_begun out is settled l =
-            turns_settled t from stage s g end i.block out settled (ap (λ (h : Progress). h.entries) is) end_beyond
-            (λ n. subst (λ (h : Progress). GivenNear h.state) (sym is) n)
-            (λ m.
-            skipped m
-            ∙ block-begun (limits s.job) t x.at stage s m g met.inside met.block (not_storing stage alone) may i offset (sym met.decoded ∙ d)
-            ∙ ap (λ (h : Progress). and_then (placed (limits s.job) t end i.block (program stage s m h)) (lines_from (limits s.job) t end)) (sym is)) l
+    -- it begins, and is settled
+    pub ahead_begun :
+        {b : Begun} {end : Location} (out : Out Turn) → begin_at (limits p.setup.job) frame t x.at p.progress ≡ Ok (b, end)
+        → Settles out end b.block (with_progress p b.progress) → (l : Lent) → Turns out t from p l l
+    ahead_begun {b} {end} out e settled =
+        let j = limits p.setup.job in
+        let n = begin_at-ok j frame t x.at p.progress e in
+        turns_settled t from p end b.block out settled n.0 (subst (Beyond t from) (sym n.1) end_beyond)
+        (λ h. (begin-near calls_near j frame x.at.line (line_at t x.at.offset) p.progress h b (begun-at j frame t x.at p.progress e)).given)
+        (begins ∙ ap (begun_then j t p) e)

@@ -7,12 +7,15 @@ use Prim.Native.Nat.{ℕ, suc, ◌+◌, ◌≤◌}
 use native.Mathlib.Omega.{arith}
 use lib.ListN.{length, drop}
 use Rattle.aries.specs.declared.block.Block.{Block}
+use Rattle.aries.specs.declared.block.Call.{Call}
+use Rattle.aries.specs.declared.block.Outside.{Outside}
 use Rattle.aries.specs.declared.entry.Entry.{Entry}
 use Rattle.aries.specs.declared.location.Location.{Location}
 use Rattle.aries.specs.declared.macros.Macros.{Macros}
 use Rattle.aries.specs.declared.refusal.Refused.{Refused}
 use Rattle.aries.specs.declared.setup.Program.{Program}
 use Rattle.aries.specs.declared.setup.Setup.{Setup}
+use Rattle.aries.specs.declared.setup.Stage.{Stage}
 use Rattle.aries.specs.declared.setup.Stage.TheVariants.{Running}
 use Rattle.aries.specs.declared.state.Progress.{Progress}
 use Rattle.aries.specs.Outcome.{Out, ◌>>=◌}
@@ -20,19 +23,21 @@ use Rattle.aries.specs.Text.{lines}
 use Rattle.aries.specs.Entries.{Made, no_entry, adding, and_then, map_after}
 use Rattle.aries.specs.Judging.{Judging, limits}
 use Rattle.aries.specs.Macros.{carry_direct, carry, Begun, begin}
-use Rattle.aries.specs.Program.{carry_out, run_block_outside, run_line_outside, run_from}
+use Rattle.aries.specs.Program.{with_progress, at_stage, carry_out, run_block_outside, run_line_outside, run_from}
 use Rattle.aries.specs.Runs.{Lent, entries_of_program, Ran}
 use Rattle.aries.specs.Setup.{ordinary_frame}
 use Rattle.aries.proofs.Runs.{accepted_as, ran_then, ran-map, no_entry_then, refused_out}
 use Rattle.stretches.specs.declared.Sequel.{Sequel}
-use Rattle.stretches.specs.declared.Stretch.{Stretch}
+use Rattle.stretches.specs.Stretches.{Stretch}
 use Rattle.stretches.specs.Stretches.{going, block_step, line_step, onward, end_of, behind, stretch, entries_of_stretch}
-use Rattle.stretches.proofs.Sequels.{Behind, StretchBehind, stretch-behind, left_made, first-line}
-use Rattle.stretches.proofs.Nearness.{StretchNear, stretch-near}
-use Rattle.turns.specs.declared.turn.Turn.{Turn}
-use Rattle.turns.specs.Turns.{program, at, placed, lines_from, left_after, Near, Quiet}
-use Rattle.program.specs.Lines.{Beyond, Turns}
-use Rattle.program.proofs.RunFrom.{from_end}
+use Rattle.stretches.proofs.Sequels.{Behind, SequelBehind, StretchBehind, stretch-behind, left_made, first-line}
+use Rattle.stretches.proofs.Nearness.{SequelNear, StretchNear, stretch-near}
+use Rattle.turns.specs.declared.turn.Called.TheVariants.{Macro}
+use Rattle.turns.specs.declared.turn.Next.{Next}
+use Rattle.turns.specs.declared.turn.Next.TheVariants.{Line, Run}
+use Rattle.turns.specs.Turns.{Turn, placed, lines_from, left_of, left_after, place_of, Near, NextNear, Quiet, Settles}
+use Rattle.program.specs.Lines.{InText, Beyond, Turns}
+use Rattle.program.proofs.RunFrom.{text_end, from_end}
 
 -- ---- A stretch, and then what follows it
 
@@ -51,19 +56,20 @@ adding-through es (Ok m) f = adding_again es m.entries (f m.after)
 
 -- what passed leads on to what follows
 ran_through :
-    (s : Setup) (m : Macros) {x : Stretch} {result : Out Program} {before mid after : Lent} {k : ℕ} (first : Out (Made Stretch)) (rest : Stretch → Out (Made Program))
-    → Ran entries_of_stretch s.job (Ok x) before mid k first → Ran entries_of_program s.job result mid after x.progress.entries (rest x)
-    → Ran entries_of_program s.job result before after k (through first rest)
-ran_through s m {x} {result} {before} {mid} {after} {k} first rest h i =
+    (p : Program) {x : Stretch} {result : Out Program} {before mid after : Lent} {k : ℕ} (first : Out (Made Stretch)) (rest : Stretch → Out (Made Program))
+    → Ran entries_of_stretch p.setup.job (Ok x) before mid k first → Ran entries_of_program p.setup.job result mid after x.progress.entries (rest x)
+    → Ran entries_of_program p.setup.job result before after k (through first rest)
+ran_through p {x} {result} {before} {mid} {after} {k} first rest h i =
+    let job = p.setup.job in
     let a = accepted_as x first h.same in
-    let to : Stretch → Program = λ (y : Stretch). program Running s m y.progress in
-    let whole : Ran entries_of_program s.job result before after k (and_then (map_after to first) (λ q. rest x)) = ran_then (map_after to first) (λ q. rest x) (ran-map to (λ y. refl) first h) i in
-    subst (λ (y : Stretch). Ran entries_of_program s.job result before after k (through first rest)) a.after_is
-    (rw a.out_is (subst (λ (y : Stretch). Ran entries_of_program s.job result before after k (adding a.made.entries (rest y))) (sym a.after_is) (rw a.out_is at whole)))
+    let to : Stretch → Program = λ (y : Stretch). with_progress p y.progress in
+    let whole : Ran entries_of_program job result before after k (and_then (map_after to first) (λ q. rest x)) = ran_then (map_after to first) (λ q. rest x) (ran-map to (λ y. refl) first h) i in
+    subst (λ (y : Stretch). Ran entries_of_program job result before after k (through first rest)) a.after_is
+    (rw a.out_is (subst (λ (y : Stretch). Ran entries_of_program job result before after k (adding a.made.entries (rest y))) (sym a.after_is) (rw a.out_is at whole)))
 
 -- ---- The lines, stretch by stretch
 
-module _ (j : Judging) (t : List ℕ) (s : Setup) (m : Macros) where
+module _ (j : Judging) (t : List ℕ) where
   -- a block, and then the lines behind it
   abbrev pub block_then : Location → Block → Program → Out (Made Program)
   block_then end b p = and_then (placed j t end b p) (lines_from j t end)
@@ -74,99 +80,153 @@ module _ (j : Judging) (t : List ℕ) (s : Setup) (m : Macros) where
   following_by (Some (Sequel.Call c end)) p = block_then end (Block.Call c) p
   following_by (Some (Sequel.Outside o end)) p = block_then end (Block.Outside o) p
 
-  abbrev pub following : Stretch → Out (Made Program)
-  following x = following_by x.sequel (program Running s m x.progress)
+  abbrev pub following : Program → Stretch → Out (Made Program)
+  following p x = following_by x.sequel (with_progress p x.progress)
+
+module _ (j : Judging) (t : List ℕ) (s : Setup) (m : Macros) where
+  -- a program that runs
+  abbrev running : Progress → Program
+  running g = record { stage = Running; setup = s; macros = m; progress = g }
+
+  abbrev follows : Stretch → Out (Made Program)
+  follows x = following j t (running x.progress) x
 
   -- a line, and what follows it
   line-all :
       (end : Location) (l : List ℕ) (g : Progress) (later : Progress → Out (Made Stretch)) (rest : Program → Out (Made Program))
-      → ((g : Progress) → rest (program Running s m g) ≡ through (later g) following) → ((p : Program) → rest p ≡ lines_from j t end p)
-      → and_then (run_line_outside j t (end.offset + 1) end.line l (lines (drop (end.offset + 1) t)) (program Running s m g)) rest
-      ≡ through (and_then (line_step j (ordinary_frame s) end l g) (onward later)) following
+      → ((g : Progress) → rest (running g) ≡ through (later g) follows) → ((p : Program) → rest p ≡ lines_from j t end p)
+      → and_then (run_line_outside j t (end.offset + 1) end.line l (lines (drop (end.offset + 1) t)) (running g)) rest
+      ≡ through (and_then (line_step j (ordinary_frame s) end l g) (onward later)) follows
   unfolding run_block_outside placed carry_out carry
-  line-all end [] g later rest same past = ap (adding []) (same g) ∙ adding-through [] (later g) following
+  line-all end [] g later rest same past = ap (adding []) (same g) ∙ adding-through [] (later g) follows
   line-all end (b ∷ bs) g later rest same past = begins (begin j (ordinary_frame s) end.line (b ∷ bs) g)
     where
-      carried : (out : Out (Made Progress)) → and_then (map_after (program Running s m) out) rest ≡ through (and_then (map_after going out) (onward later)) following
-      carried (Ok n) = ap (adding n.entries) (same n.after) ∙ adding-through n.entries (later n.after) following
+      carried : (out : Out (Made Progress)) → and_then (map_after running out) rest ≡ through (and_then (map_after going out) (onward later)) follows
+      carried (Ok n) = ap (adding n.entries) (same n.after) ∙ adding-through n.entries (later n.after) follows
       carried (Err e) = refl
 
-      others : (d : Block) (g : Progress) → and_then (placed j t end d (program Running s m g)) rest ≡ adding [] (block_then end d (program Running s m g))
+      others : (d : Block) (g : Progress) → and_then (placed j t end d (running g)) rest ≡ adding [] (block_then j t end d (running g))
       others d g =
-          ap (and_then (placed j t end d (program Running s m g))) (fun_ext past)
-          ∙ sym (no_entry_then (program Running s m g) (block_then end d))
+          ap (and_then (placed j t end d (running g))) (fun_ext past)
+          ∙ sym (no_entry_then (running g) (block_then j t end d))
 
-      blocks : (d : Block) (g : Progress) → and_then (placed j t end d (program Running s m g)) rest ≡ through (and_then (block_step j (ordinary_frame s) end d g) (onward later)) following
+      blocks : (d : Block) (g : Progress) → and_then (placed j t end d (running g)) rest ≡ through (and_then (block_step j (ordinary_frame s) end d g) (onward later)) follows
       blocks (Block.Direct d) g = carried (carry_direct j (ordinary_frame s) end.line d g)
       blocks (Block.Call n) g = others (Block.Call n) g
       blocks (Block.Outside o) g = others (Block.Outside o) g
 
       begins :
           (out : Out Begun)
-          → and_then (◌>>=◌ out (λ x. placed j t end x.block (program Running s m x.progress))) rest
-          ≡ through (and_then (◌>>=◌ out (λ x. block_step j (ordinary_frame s) end x.block x.progress)) (onward later)) following
+          → and_then (◌>>=◌ out (λ x. placed j t end x.block (running x.progress))) rest
+          ≡ through (and_then (◌>>=◌ out (λ x. block_step j (ordinary_frame s) end x.block x.progress)) (onward later)) follows
       begins (Err e) = refl
       begins (Ok x) = blocks x.block x.progress
 
   lines-all :
       (ls : List (List ℕ)) (at : Location) (g : Progress) → lines (drop at.offset t) ≡ ls
-      → run_from j t at.offset at.line ls (program Running s m g) ≡ through (stretch j (ordinary_frame s) at ls g) following
+      → run_from j t at.offset at.line ls (running g) ≡ through (stretch j (ordinary_frame s) at ls g) follows
   unfolding run_from stretch
   lines-all [] at g e = refl
   lines-all (l ∷ ls) at g e =
       let w = first-line t at.offset l ls e in
       let end = end_of at (length l) in
-      ap (λ (k : List (List ℕ)). and_then (run_line_outside j t (end.offset + 1) at.line l k (program Running s m g)) (run_from j t (end.offset + 1) (suc at.line) ls)) (sym w.1)
+      ap (λ (k : List (List ℕ)). and_then (run_line_outside j t (end.offset + 1) at.line l k (running g)) (run_from j t (end.offset + 1) (suc at.line) ls)) (sym w.1)
       ∙ line-all end l g (stretch j (ordinary_frame s) (behind end) ls) (run_from j t (end.offset + 1) (suc at.line) ls)
       (λ h. lines-all ls (behind end) h w.1)
       (λ p. ap (λ (k : List (List ℕ)). run_from j t (end.offset + 1) (suc at.line) k p) (sym w.1) ∙ from_end j t end p w.2)
 
-  -- the lines from a place on
-  pub lines_stretched :
-      (at : Location) (g : Progress) → lines_from j t at (program Running s m g) ≡ through (stretch j (ordinary_frame s) at (lines (drop at.offset t)) g) following
-  lines_stretched at g = lines-all (lines (drop at.offset t)) at g refl
+-- the lines from a place on, while the program runs
+pub lines_stretched :
+    (j : Judging) (t : List ℕ) (at : Location) (p : Program) → p.stage ≡ Running
+    → lines_from j t at p ≡ through (stretch j (ordinary_frame p.setup) at (lines (drop at.offset t)) p.progress) (following j t p)
+lines_stretched j t at p runs =
+    subst
+    (λ (stage : Stage).
+    lines_from j t at (at_stage stage p) ≡ through (stretch j (ordinary_frame p.setup) at (lines (drop at.offset t)) p.progress) (following j t (at_stage stage p)))
+    (sym runs) (lines-all j t p.setup p.macros (lines (drop at.offset t)) at p.progress refl)
+
+-- a call is in its place
+called_placed :
+    (j : Judging) (t : List ℕ) (p : Program) → p.stage ≡ Running → (c : Call) (end : Location) → left_of j t (Run (Macro c) end) p ≡ block_then j t end (Block.Call c) p
+unfolding placed
+called_placed j t p runs c end = rw runs refl
 
 -- ---- A stretch that was carried out
 
+-- the end of the text, in a line of a number that is of no account
+abbrev pub text_ends : List ℕ → Location → Location
+text_ends t from = record { offset = length t; line = from.line }
+
 -- the end of a line that comes after it lies further on
-pub behind-beyond : (t : List ℕ) (from end : Location) → from.line ≤ from.offset + 1 → Behind t from end → Beyond t from end
+behind-beyond : (t : List ℕ) (from end : Location) → from.line ≤ from.offset + 1 → Behind t from end → Beyond t from end
 behind-beyond t from end n b = record { further = b.after; inside = omega (arith, b.inside); numbered = omega (arith, n, b.paced) }
 
-module _ (t : List ℕ) (from : Location) (s : Setup) (g : Progress) where
+module _ (t : List ℕ) (from : Location) (p : Program) (runs : p.stage ≡ Running) where
   abbrev pub here : Out (Made Stretch)
-  here = stretch (limits s.job) (ordinary_frame s) from (lines (drop from.offset t)) g
+  here = stretch (limits p.setup.job) (ordinary_frame p.setup) from (lines (drop from.offset t)) p.progress
 
   -- it was refused
   pub stretch-refused :
-      {e : Refused} {before after : Lent} → Ran entries_of_stretch s.job (Err e) before after g.entries here → Turns (Err e) t from Running s g before after
-  stretch-refused {e} ran m =
-      lines_stretched (limits s.job) t s m from g ∙ ap (λ (o : Out (Made Stretch)). through o (following (limits s.job) t s m)) (refused_out e here ran.same)
+      {e : Refused} {before after : Lent} → Ran entries_of_stretch p.setup.job (Err e) before after p.progress.entries here → Turns (Err e) t from p before after
+  stretch-refused {e} ran =
+      lines_stretched (limits p.setup.job) t from p runs ∙ ap (λ (o : Out (Made Stretch)). through o (following (limits p.setup.job) t p)) (refused_out e here ran.same)
 
-  module _ {x : Stretch} {before after : Lent} (ran : Ran entries_of_stretch s.job (Ok x) before after g.entries here) where
+  module _ {x : Stretch} {before after : Lent} (ran : Ran entries_of_stretch p.setup.job (Ok x) before after p.progress.entries here) where
     -- what it leaves: the letters given, and a call that comes after it,
-    pub left-near : Near s g → StretchNear x
-    left-near n = left_made here ran.same (stretch-near (limits s.job) (ordinary_frame s) (lines (drop from.offset t)) from g n.1)
+    left-near : Near p → StretchNear x
+    left-near n = left_made here ran.same (stretch-near (limits p.setup.job) (ordinary_frame p.setup) (lines (drop from.offset t)) from p.progress n.1)
 
     -- and where that lies
-    pub left-behind : StretchBehind t from x
-    left-behind = left_made here ran.same (stretch-behind t (limits s.job) (ordinary_frame s) from g)
+    left-behind : StretchBehind t from x
+    left-behind = left_made here ran.same (stretch-behind t (limits p.setup.job) (ordinary_frame p.setup) from p.progress)
 
     -- whoever does what follows has done the whole
-    pub stretch-passed :
-        (out : Out Turn) (end : Location) → Near s g → Beyond t from end → ((m : Macros) → left_after (limits s.job) t m out ≡ following (limits s.job) t s m x)
-        → IfOk out (Quiet end s x.progress) → Turns out t from Running s g before after
-    stretch-passed (Err e) end n far same quiet = λ m.
+    stretch-passed :
+        (out : Out Turn) (end : Location) → Near p → Beyond t from end → left_after (limits p.setup.job) t out ≡ following (limits p.setup.job) t p x
+        → IfOk out (Quiet end (with_progress p x.progress)) → Turns out t from p before after
+    stretch-passed (Err e) end n far same quiet =
         let a = accepted_as x here ran.same in
-        lines_stretched (limits s.job) t s m from g
-        ∙ ap (λ (o : Out (Made Stretch)). through o (following (limits s.job) t s m)) a.out_is
-        ∙ ap (λ (y : Stretch). adding a.made.entries (following (limits s.job) t s m y)) a.after_is
-        ∙ ap (adding a.made.entries) (sym (same m))
+        lines_stretched (limits p.setup.job) t from p runs
+        ∙ ap (λ (o : Out (Made Stretch)). through o (following (limits p.setup.job) t p)) a.out_is
+        ∙ ap (λ (y : Stretch). adding a.made.entries (following (limits p.setup.job) t p y)) a.after_is
+        ∙ ap (adding a.made.entries) (sym same)
     stretch-passed (Ok r) end n far same quiet =
         record {
-          leads = λ m result last h.
-              rw (lines_stretched (limits s.job) t s m from g)
-              (ran_through s m here (following (limits s.job) t s m) ran (rw (same m, quiet.entries) at h));
+          leads = λ result last h.
+              rw (lines_stretched (limits p.setup.job) t from p runs)
+              (ran_through p here (following (limits p.setup.job) t p) ran (rw (same, quiet.entries) at h));
           job = quiet.job;
           comes = subst (Beyond t from) (sym quiet.comes) far;
           near = λ k. quiet.near (k.0, (left-near k).given);
         }
+
+    -- to a place
+    abbrev passed_to : Next → Turn
+    passed_to next = record { program = with_progress p x.progress; next = next }
+
+    quiet-to : (next : Next) → NextNear next → Quiet (place_of next) (with_progress p x.progress) (passed_to next)
+    quiet-to next n = record { entries = refl; job = refl; comes = refl; near = λ k. (k, n) }
+
+    -- by what comes after it: the end of the text,
+    pub stretch-ended : InText t from → Near p → x.sequel ≡ None → Turns (Ok (passed_to (Line (text_ends t from)))) t from p before after
+    stretch-ended i n e =
+        stretch-passed (Ok (passed_to (Line (text_ends t from)))) (text_ends t from) n
+        (record { further = i.inside; inside = omega arith; numbered = omega (arith, i.inside, i.numbered) })
+        (text_end (limits p.setup.job) t (text_ends t from) (with_progress p x.progress) (omega arith) ∙ ap (λ (s : Option Sequel). following_by (limits p.setup.job) t s (with_progress p x.progress)) (sym e))
+        (quiet-to (Line (text_ends t from)) tt)
+
+    -- a call,
+    pub stretch-called : InText t from → Near p → {c : Call} {end : Location} → x.sequel ≡ Some (Sequel.Call c end) → Turns (Ok (passed_to (Run (Macro c) end))) t from p before after
+    stretch-called i n {c} {end} e =
+        stretch-passed (Ok (passed_to (Run (Macro c) end))) end n (behind-beyond t from end i.numbered (subst (SequelBehind t from) e left-behind))
+        (called_placed (limits p.setup.job) t (with_progress p x.progress) runs c end ∙ ap (λ (s : Option Sequel). following_by (limits p.setup.job) t s (with_progress p x.progress)) (sym e))
+        (quiet-to (Run (Macro c) end) (subst SequelNear e (left-near n).sequel))
+
+    -- or a block that stands only outside bodies
+    pub stretch-settled :
+        InText t from → Near p → {o : Outside} {end : Location} → x.sequel ≡ Some (Sequel.Outside o end) → (out : Out Turn)
+        → Settles out end (Block.Outside o) (with_progress p x.progress) → Turns out t from p before after
+    stretch-settled i n {o} {end} e out settled =
+        stretch-passed out end n (behind-beyond t from end i.numbered (subst (SequelBehind t from) e left-behind))
+        (settled.same t ∙ ap (λ (s : Option Sequel). following_by (limits p.setup.job) t s (with_progress p x.progress)) (sym e))
+        settled.quiet

@@ -1,78 +1,61 @@
-ghost use Rattle.std.specs.Prelude.{◌≡◌, ◌≤◌, length, Ok, IfOk};
+ghost use Rattle.std.specs.Prelude.{◌≡◌, ◌+◌, ◌≤◌, ◌<◌, length, Ok};
+ghost use Rattle.aries.specs.declared.block.Block.TheVariants as Block;
+ghost use Rattle.aries.specs.declared.block.Outside.TheVariants as Outside;
 ghost use Rattle.aries.specs.declared.setup.Stage.TheVariants.{Running, Storing};
 ghost use Rattle.aries.specs.Program.{fresh_program, run_from};
-ghost use Rattle.aries.specs.Runs.{Lent, lent_both, Carried, Advanced};
-ghost use Rattle.aries.specs.Setup.{ordinary_frame};
+ghost use Rattle.aries.specs.Runs.{Lent, lent_both, leaving, Advanced};
 ghost use Rattle.aries.specs.Text.{lines};
-ghost use Rattle.aries.specs.Steady.{GivenNear};
-ghost use Rattle.turns.specs.Turns.{Alone, CalledNear, Near};
-ghost use Rattle.program.specs.Lines.{InText, Turns, run_called};
+ghost use Rattle.turns.specs.Turns.{Alone, CalledNear, Near, block_of, left_at};
+ghost use Rattle.program.specs.Lines.{InText, Turns, Carries};
 
 use aries::job::Job;
 use aries::location::Location;
-use aries::macros::Macros;
 use aries::refusal::{Refusal, Refused};
-use aries::setup::{Program, Setup, Stage};
-use aries::state::Progress;
+use aries::setup::{Program, Stage};
+use bodies::{MOST_CALLS, Stored, run_body};
+use copies::copy_part;
 use storing::open_body;
-use stretches::{LETTER_V, MOST_BLOCKS, Sequel, look_ahead, run_stretch};
+use stretches::{LETTER_V, Lines, Sequel, begin, look_ahead, run_stretch};
 use tallies::FIGURES;
 use turns::outside;
-use turns::turn::{Called, Next, Turn};
+use turns::turn::{Called, Next};
+
+// The end of a text, in a line of a number that is of no account.
+fn text_end(text: &[u8], from: Location) -> Location
+    ensures { result ≡ record { offset = length text.now; line = from.line } }
+{
+    Location {
+        offset: text.len(),
+        ..from
+    }
+}
 
 // The next block before G92 or after G50: 3, 4 to 6, and then its place.
-fn run_alone(
-    text: &[u8],
-    from: Location,
-    stage: Stage,
-    setup: Setup,
-    progress: Progress,
-) -> Result<Turn, Refused>
-    requires { (InText text.now from) × (Alone stage) }
-    ensures { (l : Lent) → Turns result text.now from stage setup progress l l }
+fn run_alone(text: &[u8], from: Location, program: &mut Program) -> Result<Next, Refused>
+    requires { (InText text.now from) × (Alone program.old.stage) }
+    ensures { (l : Lent) → Turns (left_at result program.new) text.now from program.old l l }
 {
-    let reader = setup.frame().reader(progress.state.given);
+    let reader = program.setup.frame().reader(&program.progress.state);
     let Some(ahead) = look_ahead(reader, text, from) else {
-        return Ok(Turn {
-            stage,
-            setup,
-            progress,
-            next: Next::Line(Location {
-                offset: text.len(),
-                ..from
-            }),
-        });
+        return Ok(Next::Line(text_end(text, from)));
     };
-    let line = ahead.at.line;
-    let counted = text[ahead.at.offset] != LETTER_V;
-    let may_come = !counted | (progress.blocks < MOST_BLOCKS);
-    if !may_come {
-        return Err(Refusal::BlocksSpent.at(line));
-    }
-    let (instruction, offset) = ahead.decoded.map_err(|refusal| refusal.at(line))?;
-    let end = Location { offset, line };
-    let begun = progress.begun(counted, instruction.measure);
-    outside::start(end, instruction.block, stage, setup, begun)
+    let (block, end) = begin(text, ahead, &mut program.progress)?;
+    outside::start(end, block, program)
 }
 
 // A line between a U line and its V line is passed over; the V line ends that.
-fn pass_over(text: &[u8], from: Location, setup: Setup, progress: Progress) -> Turn
-    requires { InText text.now from }
-    ensures { (l : Lent) → Turns (Ok result) text.now from Storing setup progress l l }
+fn pass_over(text: &[u8], from: Location, program: &mut Program) -> Next
+    requires in_text { InText text.now from }
+    requires storing { program.old.stage ≡ Storing }
+    ensures { (l : Lent) → Turns (left_at (Ok result) program.new) text.now from program.old l l }
 {
-    let next = Next::Line(Location {
+    if text[from.offset] == LETTER_V {
+        program.stage = Stage::Running;
+    }
+    Next::Line(Location {
         offset: text::line_end(text, from.offset) + 1,
         line: from.line + 1,
-    });
-    if text[from.offset] == LETTER_V {
-        return Turn::running(setup, progress, next);
-    }
-    Turn {
-        stage: Stage::Storing,
-        setup,
-        progress,
-        next,
-    }
+    })
 }
 
 // The direct blocks from a place on, while the program runs, and the block that comes after them.
@@ -81,29 +64,20 @@ fn run_on(
     tally: &mut [u64; FIGURES],
     text: &[u8],
     from: Location,
-    setup: Setup,
-    progress: Progress,
-) -> Result<Turn, Refused>
+    program: &mut Program,
+) -> Result<Next, Refused>
     requires in_text { InText text.now from }
-    requires near { Near setup progress }
-    ensures { Turns result text.now from Running setup progress (lent_both list.old tally.old) (lent_both list.new tally.new) }
+    requires running { program.old.stage ≡ Running }
+    requires near { Near program.old }
+    ensures { Turns (left_at result program.new) text.now from program.old (lent_both list.old tally.old) (lent_both list.new tally.new) }
 {
-    let frame = setup.frame();
-    let start = look_ahead(frame.reader(progress.state.given), text, from);
-    let stretch = run_stretch(list, tally, text, from, start, frame, progress)?;
-    let left = stretch.progress;
-    match stretch.sequel {
-        None => {
-            let end = Location {
-                offset: text.len(),
-                ..from
-            };
-            Ok(Turn::running(setup, left, Next::Line(end)))
-        }
-        Some(Sequel::Call(call, end)) => {
-            Ok(Turn::running(setup, left, Next::Run(Called::Macro(call), end)))
-        }
-        Some(Sequel::Outside(outside, end)) => outside::settle(end, outside, setup, left),
+    let frame = program.setup.frame();
+    let source = Lines::read(frame.reader(&program.progress.state), text, from);
+    let sequel = run_stretch(list, tally, source, frame, &mut program.progress)?;
+    match sequel {
+        None => Ok(Next::Line(text_end(text, from))),
+        Some(Sequel::Call(call, end)) => Ok(Next::Run(Called::Macro(call), end)),
+        Some(Sequel::Outside(outside, end)) => outside::settle(end, outside, program),
     }
 }
 
@@ -113,49 +87,71 @@ fn run_turn(
     tally: &mut [u64; FIGURES],
     text: &[u8],
     from: Location,
-    stage: Stage,
-    setup: Setup,
-    progress: Progress,
-) -> Result<Turn, Refused>
+    program: &mut Program,
+) -> Result<Next, Refused>
     requires in_text { InText text.now from }
-    requires near { Near setup progress }
-    ensures { Turns result text.now from stage setup progress (lent_both list.old tally.old) (lent_both list.new tally.new) }
+    requires near { Near program.old }
+    ensures { Turns (left_at result program.new) text.now from program.old (lent_both list.old tally.old) (lent_both list.new tally.new) }
 {
-    match stage {
-        Stage::Running => run_on(list, tally, text, from, setup, progress),
-        Stage::Storing => Ok(pass_over(text, from, setup, progress)),
-        Stage::Fresh | Stage::Ended => run_alone(text, from, stage, setup, progress),
+    match program.stage {
+        Stage::Running => run_on(list, tally, text, from, program),
+        Stage::Storing => Ok(pass_over(text, from, program)),
+        Stage::Fresh | Stage::Ended => run_alone(text, from, program),
     }
 }
 
-// A block that runs stored bodies, in a line with a number. Four calls may be open.
+// A block that runs stored bodies, in a line that ends at a place. Four calls may be open.
 fn run_called(
     list: &mut [i32],
     tally: &mut [u64; FIGURES],
     text: &[u8],
     called: Called,
-    line: u64,
-    setup: Setup,
-    macros: &Macros,
-    progress: Progress,
-) -> Result<Progress, Refused>
-    requires near { Near setup progress }
+    end: Location,
+    program: &mut Program,
+) -> Result<(), Refused>
+    requires near { Near program.old }
     requires called_near { CalledNear called }
-    ensures runs { Carried result (ordinary_frame setup) (lent_both list.old tally.old) (lent_both list.new tally.new) progress (λ j. run_called j text.now macros.now setup line called) }
-    ensures given_near { IfOk result (λ left. GivenNear left.state) }
+    ensures { Carries (leaving result program.new) text.now end (block_of called) program.old (lent_both list.old tally.old) (lent_both list.new tally.new) }
 {
-    let depth = bodies::MOST_CALLS;
-    let frame = setup.frame();
+    let setup = program.setup;
+    let stored = Stored {
+        text,
+        macros: &program.macros,
+    };
+    let progress = &mut program.progress;
     match called {
         Called::Macro(call) => {
-            bodies::run_body(
-                depth, list, tally, text, call, line, macros, frame, progress,
+            let frame = setup.frame();
+            run_body(
+                MOST_CALLS, list, tally, stored, call, end.line, frame, progress,
             )
         }
-        Called::Part(copies) => {
-            copies::copy_part(list, tally, text, setup, macros, line, copies, progress)
-        }
+        Called::Part(copies) => copy_part(list, tally, stored, setup, end.line, copies, progress),
     }
+}
+
+// A U line, which ends at a place: its body is stored, and the lines of the body are to be passed over.
+fn open(
+    list: &mut [i32],
+    tally: &mut [u64; FIGURES],
+    text: &[u8],
+    number: u8,
+    end: Location,
+    program: &mut Program,
+) -> Result<(), Refused>
+    requires fits { (length text.now ≤ 60000) × (end.offset ≤ length text.now + 1) × (end.line < 65535) }
+    requires near { Near program.old }
+    ensures { Carries (leaving result program.new) text.now end (Block.Outside (Outside.Open number)) program.old (lent_both list.old tally.old) (lent_both list.new tally.new) }
+{
+    let start = Location {
+        offset: end.offset + 1,
+        ..end
+    };
+    let setup = program.setup;
+    let (macros, progress) = (&mut program.macros, &mut program.progress);
+    open_body(list, tally, text, number, start, setup, macros, progress)?;
+    program.stage = Stage::Storing;
+    Ok(())
 }
 
 // A text without spaces, line after line up to the first refusal.
@@ -171,55 +167,17 @@ pub fn run_text(
     let mut program = Program::fresh(job);
     let mut from = Location { offset: 0, line: 1 };
     while from.offset < text.len() {
-        let turn = run_turn(
-            list,
-            tally,
-            text,
-            from,
-            program.stage,
-            program.setup,
-            program.progress,
-        )?;
-        program.stage = turn.stage;
-        program.setup = turn.setup;
-        program.progress = turn.progress;
-        let (setup, progress) = (turn.setup, turn.progress);
-        match turn.next {
-            Next::Line(next) => from = next,
+        from = match run_turn(list, tally, text, from, &mut program)? {
+            Next::Line(next) => next,
             Next::Run(called, end) => {
-                program.progress = run_called(
-                    list,
-                    tally,
-                    text,
-                    called,
-                    end.line,
-                    setup,
-                    &program.macros,
-                    progress,
-                )?;
-                from = end;
+                run_called(list, tally, text, called, end, &mut program)?;
+                end
             }
             Next::Open(number, end) => {
-                let start = Location {
-                    offset: end.offset + 1,
-                    ..end
-                };
-                let opened = open_body(
-                    list,
-                    tally,
-                    text,
-                    number,
-                    start,
-                    setup,
-                    &program.macros,
-                    progress,
-                )?;
-                program.stage = Stage::Storing;
-                program.macros = opened.macros;
-                program.progress = opened.progress;
-                from = end;
+                open(list, tally, text, number, end, &mut program)?;
+                end
             }
-        }
+        };
     }
     Ok(program)
 }

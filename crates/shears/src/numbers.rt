@@ -74,6 +74,7 @@ pub fn travel(shear: Shear) -> u64
     requires { is_fit shear ≡ true }
     ensures { result ≡ travel shear }
 {
+    // not below 0, as the shear is fit
     (cut_length(shear) - i64::from(width(shear))) as u64
 }
 
@@ -83,5 +84,6 @@ pub fn steps(shear: Shear) -> u32
     ensures { result ≡ steps shear }
 {
     let longest = u64::from(width(shear)) - OVERLAP;
+    // fits: lengths of 32 bits make no more than 126,322,567 steps
     travel(shear).div_ceil(longest) as u32
 }

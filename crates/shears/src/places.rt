@@ -47,6 +47,7 @@ impl Cut {
         requires { Bounded self k }
         ensures { result ≡ split (cut_denominator self) (along_cut self k) }
     {
+        // both casts fit, by `Bounded`
         let ahead = (self.ahead + self.step * u64::from(k)) as i64;
         Fraction::new(ahead - self.behind as i64, self.across.denominator)
     }

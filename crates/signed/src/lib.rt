@@ -11,6 +11,7 @@ pub fn narrow(a: i64) -> i32
     requires { nat_abs a ≤ 2147483647 }
     ensures { result ≡ a }
 {
+    // fits, by the clause
     a as i32
 }
 
@@ -67,21 +68,14 @@ pub fn scaled(a: i32, n: u16, p: u32) -> i64
     i64::from(a) + i64::from(n) * i64::from(p)
 }
 
-// Whether a is below zero.
+// Whether a is below zero. No crate calls it: it stays for the must-fail edit that takes zero for negative.
 pub fn is_negative(a: i32) -> bool
     ensures { result ≡ lt_z a (pos 0) }
 {
     a.is_negative()
 }
 
-// Whether a is above zero.
-pub fn is_positive(a: i32) -> bool
-    ensures { result ≡ lt_z (pos 0) a }
-{
-    a.is_positive()
-}
-
-// Whether low ≤ a ≤ high.
+// Whether low ≤ a ≤ high. A range's contains says as much: it stays for the must-fail edit that leaves the upper end out.
 pub fn between(low: i32, a: i64, high: i32) -> bool
     ensures { result ≡ (le_z low a && le_z a high) }
 {
@@ -96,18 +90,12 @@ pub fn size_at_most(a: i64, n: u32) -> bool
     -limit <= a && a <= limit
 }
 
-// The number without its sign.
-pub fn size(a: i32) -> u32
-    ensures { result ≡ nat_abs a }
-{
-    a.unsigned_abs()
-}
-
 // The number of size n with the sign given.
 pub fn with_sign(minus: bool, n: u32) -> i32
     requires { n ≤ 2147483647 }
     ensures { result ≡ with_sign minus n }
 {
+    // fits, by the clause
     let size = n as i32;
     if minus { -size } else { size }
 }

@@ -20,7 +20,7 @@ ghost use Rattle.sine.specs.Sine.{
 
 mod entries;
 
-use entries::{DEGREE_SINES, HUNDREDTHS};
+use entries::{DEGREE_SINES, HUNDREDTH_COSINES, HUNDREDTH_SINES};
 
 // The cosine and the sine of one angle.
 #[derive(Clone, Copy)]
@@ -59,6 +59,7 @@ pub fn rounded(z: i64) -> i64
     requires { nat_abs z ≤ 9000000000000000000 }
     ensures { result ≡ rounded z one }
 {
+    // both casts: what is nearest has at most half the bits
     if z < 0 {
         -(nearest(z.unsigned_abs()) as i64)
     } else {
@@ -75,6 +76,7 @@ fn joined(first: (u32, u32), second: (u32, u32)) -> u32
     let (sine1, cosine1) = first;
     let (sine2, cosine2) = second;
     let sum = u64::from(sine1) * u64::from(cosine2) + u64::from(cosine1) * u64::from(sine2);
+    // a sine fits
     nearest(sum) as u32
 }
 
@@ -84,17 +86,20 @@ pub fn of_degrees(d: u32) -> (u32, u32)
     requires { d ≤ 90 }
     ensures { result ≡ (degree_sine d, degree_cosine d) }
 {
+    // u32 has no From into usize
     let d = d as usize;
     (DEGREE_SINES[d], DEGREE_SINES[90 - d])
 }
 
 // Sine and cosine of so many hundredths of a degree.
-#[tactic(auto, using(crate::proofs::Tables::hundredth_is))]
+#[tactic(auto, using(crate::proofs::Tables::hundredth_sine_is, crate::proofs::Tables::hundredth_cosine_is))]
 pub fn of_hundredths(h: u32) -> (u32, u32)
     requires { h < 100 }
     ensures { result ≡ (hundredth_sine h, hundredth_cosine h) }
 {
-    HUNDREDTHS[h as usize]
+    // u32 has no From into usize
+    let h = h as usize;
+    (HUNDREDTH_SINES[h], HUNDREDTH_COSINES[h])
 }
 
 // The sine of an angle of the first quadrant, from its whole degrees and the hundredths past them.
@@ -111,6 +116,7 @@ fn quadrant_sine(a: u32) -> u32
 pub fn turn(angle: i64) -> u32
     ensures { result ≡ turn angle }
 {
+    // what is left of a full turn fits
     angle.rem_euclid(i64::from(FULL_TURN)) as u32
 }
 

@@ -1,9 +1,10 @@
 -- Laws of a U line: the ways through its first run, and through storing its body.
-use Rattle.std.specs.Prelude.{Ok, Err, None, Some}
+use Rattle.std.specs.Prelude.{None, Some}
 use mathlib.Core.Path.{◌≡◌, refl}
 use mathlib.Core.Bool.{true, false}
 use mathlib.Core.List.{List}
-use Prim.Native.Nat.{ℕ, ◌-◌, ◌≤◌, ◌<◌}
+use Prim.Native.Nat.{ℕ, ◌+◌, ◌-◌, ◌≤◌, ◌<◌}
+use native.Mathlib.Numerals.{add-one}
 use borrow.Author.Tests.{le-leb, lt-leb}
 use lib.ListN.{drop}
 use Rattle.aries.specs.declared.macros.Macros.{Macros}
@@ -14,14 +15,13 @@ use Rattle.aries.specs.Outcome.{Out, refused}
 use Rattle.aries.specs.Text.{lines}
 use Rattle.aries.specs.Entries.{Made, no_entry, map_after}
 use Rattle.aries.specs.Judging.{Judging, limits}
-use Rattle.aries.specs.Macros.{Body, bodies_of, characters, most_calls, call, run_lines, run_body}
+use Rattle.aries.specs.Macros.{Body, part, bodies_of, storing, characters, most_calls, call, run_lines, run_body}
 use Rattle.aries.specs.Reader.{reader_of}
 use Rattle.aries.specs.Setup.{ordinary_frame}
 use Rattle.aries.specs.Bodies.{body_size, most_characters, runs_first, first_run, body_from, stored_at, Store, with_stored, open_body}
 use Rattle.aries.specs.Runs.{Lent, entries_made, Ran}
 use Rattle.aries.proofs.Runs.{ran-refused, ran-map, mapped}
-use Rattle.storing.specs.declared.Opened.{Opened}
-use Rattle.storing.specs.Opening.{opened_of, Opens}
+use Rattle.storing.specs.Opening.{Opens}
 
 -- ---- The first run
 
@@ -38,14 +38,6 @@ module _ (j : Judging) (text : List ℕ) (m : Macros) (n : ℕ) (b : Body) (s : 
 
 -- ---- Storing
 
--- a progress, with the bodies that are stored
-abbrev pub opened_with : Macros → Progress → Opened
-opened_with m g = record { macros = m; progress = g }
-
-stored_opened : (m : Macros) (out : Out (Made Progress)) → map_after opened_of (map_after (with_stored m) out) ≡ map_after (opened_with m) out
-stored_opened m (Ok x) = refl
-stored_opened m (Err e) = refl
-
 module _ (t : List ℕ) (n start line : ℕ) (s : Setup) (m : Macros) (g : Progress) where
   abbrev whole : Judging → Store → Out (Made Store)
   whole j = open_body j t n start line (lines (drop start t)) s
@@ -59,23 +51,30 @@ module _ (t : List ℕ) (n start line : ℕ) (s : Setup) (m : Macros) (g : Progr
       let o : whole (limits s.job) (with_stored m g) ≡ refused NotClosed line = simp e in
       rw o ran-refused
 
-  module _ {size : ℕ} (found : body_size (reader_of (ordinary_frame s) g.state) n (lines (drop start t)) ≡ Some size) where
-    -- the bodies with the new one have too many characters
-    pub opens-full :
-        {l : Lent} → most_characters < characters (stored_at m n start size line) → Opens (refused StoreFull line) s.job l l (with_stored m g) whole
+  -- a body that ends, and the bodies with it, which have so many characters
+  module _
+      {size count : ℕ} {kept : Macros}
+      (found : body_size (reader_of (ordinary_frame s) g.state) n (lines (drop start t)) ≡ Some size)
+      (stored : kept ≡ storing m n (record { start = start; end = start + size; line = line + 1 })) (counted : count ≡ characters kept) where
+    kept_is : kept ≡ stored_at m n start size line
+    kept_is = rw (← add-one line) stored
+
+    -- too many
+    pub opens-full : {l : Lent} → most_characters < count → Opens (refused StoreFull line) s.job l l (with_stored m g) whole
     unfolding open_body
     opens-full h =
-        let o : whole (limits s.job) (with_stored m g) ≡ refused StoreFull line = simp (found, lt-leb (characters (stored_at m n start size line)) most_characters h) in
+        let many : most_characters < characters (stored_at m n start size line) = rw (counted, kept_is) at h in
+        let o : whole (limits s.job) (with_stored m g) ≡ refused StoreFull line = simp (found, lt-leb _ most_characters many) in
         rw o ran-refused
 
     -- they are stored, after the first run
     pub opens-ran :
-        {r : Out Progress} {before after : Lent} → characters (stored_at m n start size line) ≤ most_characters
-        → Ran entries_made s.job r before after g.entries (first_run (limits s.job) t m n (body_from t start size line) s g)
-        → Opens (mapped (opened_with (stored_at m n start size line)) r) s.job before after (with_stored m g) whole
+        {r : Out Progress} {before after : Lent} → count ≤ most_characters
+        → Ran entries_made s.job r before after g.entries (first_run (limits s.job) t m n (record { line = line + 1; bytes = part t start (start + size) }) s g)
+        → Opens (mapped (with_stored kept) r) s.job before after (with_stored m g) whole
     unfolding open_body
     opens-ran h ran =
-        let kept = stored_at m n start size line in
         let run = first_run (limits s.job) t m n (body_from t start size line) s g in
-        let o : whole (limits s.job) (with_stored m g) ≡ map_after (with_stored kept) run = simp (found, le-leb (characters kept) most_characters h) in
-        rw (o, stored_opened kept run) (ran-map (opened_with kept) (λ left. refl) run ran)
+        let few : characters (stored_at m n start size line) ≤ most_characters = rw (counted, kept_is) at h in
+        let o : whole (limits s.job) (with_stored m g) ≡ map_after (with_stored (stored_at m n start size line)) run = simp (found, le-leb _ most_characters few) in
+        rw (o, kept_is) (ran-map (with_stored (stored_at m n start size line)) (λ left. refl) run (rw (add-one line) at ran))

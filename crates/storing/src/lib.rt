@@ -3,7 +3,8 @@
 
 ghost use Rattle.std.specs.Prelude.{◌≡◌, true, ◌≤◌, ◌<◌, ◌+◌, length, drop, IfOk, IfSome};
 ghost use Rattle.aries.specs.Bodies.{is_own_close, body_size, runs_first, first_run, with_stored, open_body};
-ghost use Rattle.aries.specs.Runs.{lent_both, Carried};
+ghost use Rattle.aries.specs.Runs.{lent_both, leaving, Carried};
+ghost use Rattle.bodies.specs.Stored.{body_of};
 ghost use Rattle.aries.specs.Setup.{ordinary_frame};
 ghost use Rattle.aries.specs.Steady.{GivenNear};
 ghost use Rattle.aries.specs.Judging.{near};
@@ -19,6 +20,8 @@ use aries::reader::Reader;
 use aries::refusal::{Refusal, Refused};
 use aries::setup::Setup;
 use aries::state::Progress;
+use bodies::{Body, FURTHER_CALLS, Stored, run_blocks};
+use stretches::Lines;
 use tallies::FIGURES;
 
 // The most characters that stored bodies may have.
@@ -71,40 +74,26 @@ fn runs_first(number: u8, sheet: Option<Layout>) -> bool
     sheet.is_none() && number <= LAST_RUN
 }
 
-// The first run of a body that is being stored, where there is one; its first line has a number.
+// The first run of a body that is being stored, where there is one. What was stored before is what its calls find.
 fn first_run(
     list: &mut [i32],
     tally: &mut [u64; FIGURES],
-    text: &[u8],
     number: u8,
-    body: &[u8],
-    first: u16,
+    body: Body,
     setup: Setup,
-    macros: &Macros,
-    progress: Progress,
-) -> Result<Progress, Refused>
-    requires { (near setup.origin ≡ true) × (GivenNear progress.state) }
-    ensures { Carried result (ordinary_frame setup) (lent_both list.old tally.old) (lent_both list.new tally.new) progress (λ j. first_run j text.now macros.now number (record { line = first; bytes = body.now }) setup) }
+    stored: Stored,
+    progress: &mut Progress,
+) -> Result<(), Refused>
+    requires line_fits { body.line ≤ 65535 }
+    requires origin_value { (near setup.origin ≡ true) × (GivenNear progress.old.state) }
+    ensures { Carried (leaving result progress.new) (ordinary_frame setup) (lent_both list.old tally.old) (lent_both list.new tally.new) progress.old (λ j. first_run j stored.entry.text.now stored.entry.macros.now number (body_of body.entry) setup) }
 {
     if !runs_first(number, setup.sheet) {
-        return Ok(progress);
+        return Ok(());
     }
-    let start = Location {
-        offset: 0,
-        line: first as u64,
-    };
-    let depth = bodies::FURTHER_CALLS;
     let frame = setup.frame();
-    bodies::run_blocks(
-        depth, list, tally, text, body, start, macros, frame, progress,
-    )
-}
-
-// What a U line leaves.
-#[derive(Clone, Copy)]
-pub struct Opened {
-    pub macros: Macros,
-    pub progress: Progress,
+    let source = Lines::read(frame.reader(&progress.state), body.bytes, body.start());
+    run_blocks(FURTHER_CALLS, list, tally, stored, source, frame, progress)
 }
 
 // The U line of a macro: its body starts at a place of the text, behind the U line, whose number goes with the place.
@@ -115,34 +104,35 @@ pub fn open_body(
     number: u8,
     start: Location,
     setup: Setup,
-    stored: &Macros,
-    progress: Progress,
-) -> Result<Opened, Refused>
+    macros: &mut Macros,
+    progress: &mut Progress,
+) -> Result<(), Refused>
     requires text_len_bound { (length text.now ≤ 60000) × (start.line < 65535) }
-    requires origin_value { (near setup.origin ≡ true) × (GivenNear progress.state) }
-    ensures opens { Opens result setup.job (lent_both list.old tally.old) (lent_both list.new tally.new) (with_stored stored.now progress) (λ j. open_body j text.now number start.offset start.line (lines (drop start.offset text.now)) setup) }
-    ensures given_near { IfOk result (λ opened. GivenNear opened.progress.state) }
+    requires origin_value { (near setup.origin ≡ true) × (GivenNear progress.old.state) }
+    ensures opens { Opens (leaving result (with_stored macros.new progress.new)) setup.job (lent_both list.old tally.old) (lent_both list.new tally.new) (with_stored macros.old progress.old) (λ j. open_body j text.now number start.offset start.line (lines (drop start.offset text.now)) setup) }
+    ensures given_near { IfOk result (λ u. GivenNear progress.new.state) }
 {
-    let reader = setup.frame().reader(progress.state.given);
-    let Some(size) = body_size(reader, number, text, start.offset) else {
-        return Err(Refusal::NotClosed.at(start.line));
-    };
+    let reader = setup.frame().reader(&progress.state);
+    let unclosed = Refusal::NotClosed.at(start.line);
+    let size = body_size(reader, number, text, start.offset).ok_or(unclosed)?;
     let end = start.offset + size;
-    let body = StoredBody {
+    let first_line = start.line + 1;
+    let place = StoredBody {
+        // all three fit: the text has 60,000 bytes at most
         start: start.offset as u16,
         end: end as u16,
-        line: (start.line + 1) as u16,
+        line: first_line as u16,
     };
-    let kept = stored.storing(number, body);
+    let kept = macros.storing(number, place);
     if MOST_CHARACTERS < kept.characters() {
         return Err(Refusal::StoreFull.at(start.line));
     }
-    let bytes = &text[start.offset..end];
-    let left = first_run(
-        list, tally, text, number, bytes, body.line, setup, stored, progress,
-    )?;
-    Ok(Opened {
-        macros: kept,
-        progress: left,
-    })
+    let body = Body {
+        bytes: &text[start.offset..end],
+        line: first_line,
+    };
+    let stored = Stored { text, macros };
+    first_run(list, tally, number, body, setup, stored, progress)?;
+    *macros = kept;
+    Ok(())
 }

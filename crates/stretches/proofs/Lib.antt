@@ -1,7 +1,7 @@
 pub mod Lookahead
-pub mod Plain
 pub mod Counted
 pub mod Stretches
+pub mod Begins
 pub mod Turns
 pub mod Sequels
 pub mod Nearness

@@ -17,9 +17,7 @@ use Rattle.aries.specs.Steady.{GivenNear, CallNear}
 use Rattle.aries.proofs.Given.{LeavesNear, carry_direct-near, begin-near}
 use Rattle.decode.proofs.NearCalls.{calls_near}
 use Rattle.stretches.specs.declared.Sequel.{Sequel}
-use Rattle.stretches.specs.declared.Sequel.TheVariants as Sequel
-use Rattle.stretches.specs.declared.Stretch.{Stretch}
-use Rattle.stretches.specs.Stretches.{going, block_step, line_step, onward, end_of, behind, stretch}
+use Rattle.stretches.specs.Stretches.{Stretch, going, block_step, line_step, onward, end_of, behind, stretch}
 use Rattle.stretches.proofs.Sequels.{Left, left_err, left_ok, left_then}
 
 -- a call that comes after a stretch

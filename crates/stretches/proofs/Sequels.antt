@@ -4,7 +4,7 @@ use Rattle.std.specs.Prelude.{Ok, Err, Option, Some, None}
 use mathlib.Core.Path.{◌≡◌, refl, sym, ap, subst, ◌∙◌}
 use mathlib.Core.Bool.{Bool, true, false}
 use mathlib.Core.List.{List, [], ◌∷◌, head-eq_of_cons-eq, tail-eq_of_cons-eq}
-use Prim.Native.Nat.{ℕ, suc, ◌+◌, ◌<◌, ◌≤◌}
+use Prim.Native.Nat.{ℕ, ◌+◌, ◌<◌, ◌≤◌}
 use native.Mathlib.Omega.{arith}
 use borrow.Author.Tests.{ltb-true, ltb-false}
 use lib.Dec.{ltb}
@@ -25,9 +25,7 @@ use Rattle.aries.proofs.Runs.{accepted_as}
 use Rattle.text.specs.Lines.{line_length, line_at, line_end}
 use Rattle.text.proofs.Lines.{line-short, line-inside, feed_after, lines_at, lines-past}
 use Rattle.stretches.specs.declared.Sequel.{Sequel}
-use Rattle.stretches.specs.declared.Sequel.TheVariants as Sequel
-use Rattle.stretches.specs.declared.Stretch.{Stretch}
-use Rattle.stretches.specs.Stretches.{going, block_step, line_step, onward, end_of, behind, stretch}
+use Rattle.stretches.specs.Stretches.{Stretch, going, block_step, line_step, onward, end_of, behind, stretch}
 
 -- ---- What is left has a property
 

@@ -1,5 +1,5 @@
 -- Laws of `stretch`: from line to line and from block to block of a text.
-use Rattle.std.specs.Prelude.{Ok, Err, Option, Some, None}
+use Rattle.std.specs.Prelude.{Ok, Err}
 use mathlib.Core.Path.{◌≡◌, refl, sym, ap, ap₂, ◌∙◌, fun_ext}
 use mathlib.Core.Bool.{Bool, true, false}
 use mathlib.Core.List.{List, [], ◌∷◌, ◌++◌}
@@ -20,9 +20,8 @@ use Rattle.aries.specs.Text.{lines, line_feed}
 use Rattle.aries.proofs.Runs.{no_entry_then}
 use Rattle.text.specs.Lines.{line_length, blanks, line_at, line_end}
 use Rattle.text.proofs.Lines.{line-short, line-goes_on, line-ends, feed_after, lines_at, lines-past, lines-blanks}
-use Rattle.stretches.specs.declared.Stretch.{Stretch}
+use Rattle.stretches.specs.Stretches.{begin_at, Stretch, going, block_step, line_step, onward, end_of, behind, stretch}
 use Rattle.stretches.specs.Lookahead.{past_blanks}
-use Rattle.stretches.specs.Stretches.{going, block_step, line_step, onward, end_of, behind, stretch}
 
 -- the place of a line's end
 abbrev pub line_end_at : List ℕ → Location → Location
@@ -86,19 +85,20 @@ module _ (j : Judging) (f : Frame) where
   line_step_lem end [] g h = absurd (omega arith)
   line_step_lem end (b ∷ bs) g h = refl
 
-  -- a block, and what follows from the end of its line on
-  abbrev pub block_and_on : List ℕ → Location → Out Begun → Out (Made Stretch)
-  block_and_on t end x =
-      and_then (◌>>=◌ x (λ b. block_step j f end b.block b.progress)) (onward (stretch j f end (lines (drop end.offset t))))
+  -- a block that has begun, and what follows from the end of its line on
+  abbrev pub block_and_on : List ℕ → Out (Begun × Location) → Out (Made Stretch)
+  block_and_on t (Err e) = Err e
+  block_and_on t (Ok (b, end)) = and_then (block_step j f end b.block b.progress) (onward (stretch j f end (lines (drop end.offset t))))
 
   pub stretch-block :
       (t : List ℕ) (at : Location) (g : Progress) → at.offset < length t → (get_or t at.offset 0 ≡ line_feed → ⊥)
-      → stretch j f at (lines (drop at.offset t)) g ≡ block_and_on t (line_end_at t at) (begin j f at.line (line_at t at.offset) g)
+      → stretch j f at (lines (drop at.offset t)) g ≡ block_and_on t (begin_at j f t at g)
   unfolding stretch
   stretch-block t at g h n =
       ap (λ (ls : List (List ℕ)). stretch j f at ls g) (lines_at t at.offset h)
       ∙ rw size
       (ap₂ (λ (x : Out (Made Stretch)) (rest : Progress → Out (Made Stretch)). and_then x (onward rest)) (line_step_lem end (line_at t at.offset) g some_bytes) (fun_ext (λ r. stretch-past t end r feed)))
+      ∙ with_end (begin j f at.line (line_at t at.offset) g)
     where
       end : Location
       end = line_end_at t at
@@ -111,6 +111,13 @@ module _ (j : Judging) (f : Frame) where
 
       feed : end.offset < length t → get_or t end.offset 0 ≡ line_feed
       feed i = sym (get_or-drop at.offset t (line_length (drop at.offset t)) 0) ∙ feed_after (drop at.offset t) (simp length-drop (omega arith))
+
+      with_end :
+          (x : Out Begun)
+          → and_then (◌>>=◌ x (λ b. block_step j f end b.block b.progress)) (onward (stretch j f end (lines (drop end.offset t))))
+          ≡ block_and_on t (◌>>=◌ x (λ (b : Begun). Ok (b, end)))
+      with_end (Ok b) = refl
+      with_end (Err e) = refl
 
   -- no line is left
   pub stretch_end : (t : List ℕ) (at : Location) (g : Progress) → length t ≤ at.offset → stretch j f at (lines (drop at.offset t)) g ≡ no_entry (going g)

@@ -1,52 +1,33 @@
--- What a stretch comes to at a block that is ahead, by what decoding its line answers.
+-- What a stretch comes to at a block that is ahead, by how it begins.
 use Rattle.std.specs.Prelude.{Ok, Err, Option, Some, None}
-use mathlib.Core.Path.{◌≡◌, refl, sym, ap, subst, ◌∙◌}
-use mathlib.Core.Bool.{Bool, true, false, not, ◌&&◌, ◌||◌}
+use mathlib.Core.Path.{◌≡◌, sym, ap, ◌∙◌}
 use mathlib.Core.List.{List}
 use Prim.Native.Nat.{ℕ, suc, ◌+◌, ◌-◌, ◌<◌, ◌≤◌}
 use native.Mathlib.Omega.{arith}
-use borrow.Author.Tests.{leb-true, leb-false, lt-ltb, le-ltb}
-use lib.Dec.{eqb, leb, ltb}
-use lib.ListN.{length, get_or, drop}
+use lib.ListN.{length, drop}
 use Rattle.aries.specs.declared.block.Block.{Block}
-use Rattle.aries.specs.declared.block.Instruction.{Instruction}
-use Rattle.aries.specs.declared.job.Job.{Job}
 use Rattle.aries.specs.declared.location.Location.{Location}
 use Rattle.aries.specs.declared.reader.Reader.{Reader}
-use Rattle.aries.specs.declared.refusal.Refusal.{Refusal}
-use Rattle.aries.specs.declared.refusal.Refusal.TheVariants.{BlocksSpent}
+use Rattle.aries.specs.declared.refusal.Refused.{Refused}
 use Rattle.aries.specs.declared.state.Frame.{Frame}
 use Rattle.aries.specs.declared.state.Progress.{Progress}
-use Rattle.aries.specs.Outcome.{Out, refused}
-use Rattle.aries.specs.declared.refusal.Refused.{Refused}
-use Rattle.aries.specs.Entries.{Made, no_entry, and_then, map_after}
+use Rattle.aries.specs.Outcome.{Out}
+use Rattle.aries.specs.Entries.{Made, no_entry, and_then}
 use Rattle.aries.specs.Judging.{Judging, limits}
-use Rattle.aries.specs.Letters.{letter_v}
 use Rattle.aries.specs.Reader.{reader_of}
-use Rattle.aries.specs.Macros.{Begun, is_counted, may_come, begun, begin}
-use Rattle.aries.specs.Text.{lines, line_feed}
-use Rattle.aries.specs.Runs.{Lent, Ran, entries_made}
-use Rattle.aries.proofs.Runs.{ran-refused, ran_no_entry, ran-map, Leads, leads_as, leads_on, leads_out, leads_end}
-use Rattle.aries.proofs.Calls.{begin_spent, begin-refused, begin-done}
-use Rattle.text.specs.Lines.{line_at, line_end, blanks}
-use Rattle.text.proofs.Lines.{first_byte, line-goes_on, line-inside}
-use Rattle.decode.specs.Decoding.{decoded_at}
-use Rattle.decode.proofs.Decoding.{decoded-instruction, decoded-refused}
+use Rattle.aries.specs.Runs.{Lent, Ran}
+use Rattle.aries.specs.Text.{lines}
+use Rattle.aries.proofs.Runs.{Leads, leads_as, ran-refused}
+use Rattle.text.specs.Lines.{blanks}
+use Rattle.text.proofs.Lines.{line-goes_on, line-inside}
 use Rattle.stretches.specs.declared.Ahead.{Ahead}
-use Rattle.stretches.specs.declared.Stretch.{Stretch}
-use Rattle.stretches.specs.Lookahead.{past_blanks, ahead}
-use Rattle.stretches.specs.Stretches.{going, block_step, onward, stretch, entries_of_stretch, LinesFit}
-use Rattle.stretches.proofs.Lookahead.{Meets, ahead-block, ahead_nothing}
+use Rattle.stretches.specs.Lookahead.{past_blanks, ahead, LinesFit, Known}
+use Rattle.stretches.specs.Stretches.{begun_of, begin_at, Stretch, going, block_step, onward, stretch, entries_of_stretch}
+use Rattle.stretches.proofs.Begins.{begin_at-ok}
+use Rattle.stretches.proofs.Lookahead.{ahead-block, ahead_nothing}
 use Rattle.stretches.proofs.Stretches.{line_end_at, stretch_skip, stretch-block, stretch_end, block_and_on}
 
 -- ---- What is ahead
-
--- a block that is ahead, in a line whose number fits
-pub record Known (r : Reader) (t : List ℕ) (x : Ahead) : Type 0 where
-  pub inside : x.at.offset < length t
-  pub block : get_or t x.at.offset 0 ≡ line_feed → ⊥
-  pub decoded : x.decoded ≡ decoded_at r t x.at.offset
-  pub fits : LinesFit x.at t
 
 abbrev pub KnownAhead : Reader → List ℕ → Option Ahead → Type 0
 KnownAhead r t None = Unit {0}
@@ -94,110 +75,54 @@ module _ (r : Reader) (t : List ℕ) (from : Location) (next : Option Ahead) (is
           let p : x.at.offset ≡ from.offset + blanks (drop from.offset t) = ap (λ (l : Location). l.offset) m.past in
           omega (arith, p, m.inside, a, b)
 
--- ---- A block
+-- ---- A turn of the loop: a block is ahead, and `begin` has answered. Whoever carries out what is left has carried out the whole.
 
--- whether a block counts, by the byte at its place
-abbrev pub counted_at : List ℕ → Ahead → Bool
-counted_at t x = not (eqb (get_or t x.at.offset 0) letter_v)
+known_at : {r : Reader} {t : List ℕ} {next : Option Ahead} {x : Ahead} → next ≡ Some x → KnownAhead r t next → Known r t x
+known_at is known = rw is at known
 
--- the code's test for one block too many
-spent : (counted : Bool) (blocks : ℕ) → counted && leb 100000 blocks ≡ true → not counted || ltb blocks 100000 ≡ false
-spent true blocks e = le-ltb blocks 100000 (leb-true 100000 blocks e)
-spent false blocks e = sym e
-
-not_spent : (counted : Bool) (blocks : ℕ) → counted && leb 100000 blocks ≡ false → not counted || ltb blocks 100000 ≡ true
-not_spent true blocks e = lt-ltb blocks 100000 (leb-false 100000 blocks e)
-not_spent false blocks e = refl
-
-module _ (job : Job) (f : Frame) (t : List ℕ) (x : Ahead) (g : Progress) where
-  -- the stretch from here on
-  abbrev pub here : Out (Made Stretch)
-  here = stretch (limits job) f x.at (lines (drop x.at.offset t)) g
-
-module _ (job : Job) (f : Frame) (t : List ℕ) (x : Ahead) (g : Progress) (known : Known (reader_of f g.state) t x) where
-  abbrev counted : Bool
-  counted = counted_at t x
-
-  same-counted : is_counted (line_at t x.at.offset) ≡ counted
-  same-counted = ap not (first_byte (λ b. eqb b letter_v) refl refl t x.at.offset known.inside)
-
-  block_here :
-      {o : Out Begun} → begin (limits job) f x.at.line (line_at t x.at.offset) g ≡ o
-      → here job f t x g ≡ block_and_on (limits job) f t (line_end_at t x.at) o
-  block_here e = stretch-block (limits job) f t x.at g known.inside known.block ∙ ap (block_and_on (limits job) f t (line_end_at t x.at)) e
-
-  -- one block too many
-  pub turn_spent : counted && leb 100000 g.blocks ≡ true → here job f t x g ≡ refused BlocksSpent x.at.line
-  turn_spent e = block_here (begin_spent (limits job) f x.at.line (line_at t x.at.offset) g (rw same-counted (spent counted g.blocks e)))
-
-  module _ (room : counted && leb 100000 g.blocks ≡ false) where
-    may : may_come (limits job) (line_at t x.at.offset) g ≡ true
-    may = rw same-counted (not_spent counted g.blocks room)
-
-    -- the line is refused
-    pub turn-refused : (refusal : Refusal) → x.decoded ≡ Err refusal → here job f t x g ≡ refused refusal x.at.line
-    turn-refused refusal e =
-        block_here
-        (begin-refused (limits job) f x.at.line (line_at t x.at.offset) g may refusal
-        (decoded-refused (reader_of f g.state) t x.at.offset refusal (sym known.decoded ∙ e)))
-
-    -- it counts only where it may
-    pub counted-room : counted ≡ true → g.blocks < 100000
-    counted-room c = leb-false 100000 g.blocks (sym (ap (λ (b : Bool). b && leb 100000 g.blocks) c) ∙ room)
-
-    module _ (i : Instruction) (end : ℕ) (e : x.decoded ≡ Ok (i, end)) where
-      abbrev decodes : (decoded_at (reader_of f g.state) t x.at.offset ≡ Ok (i, end))
-      decodes = sym known.decoded ∙ e
-
-      -- its line ends behind its place, and within the text
-      pub line-end : (x.at.offset < end) × (end ≤ length t)
-      line-end =
-          let q = (decoded-instruction (reader_of f g.state) t x.at.offset i end decodes).1 in (
-            omega (arith, q, line-goes_on t x.at.offset known.inside known.block),
-            omega (arith, q, line-inside t x.at.offset (omega (arith, known.inside))),
-          )
-
-      -- so that the lines behind it fit
-      pub end-fits : LinesFit (record { offset = end; line = x.at.line }) t
-      end-fits = omega (arith, known.fits, known.inside, line-end.0, line-end.1)
-
-      -- it begins, and what follows
-      pub turn_begun :
-          (b : Block) → i.block ≡ b
-          → here job f t x g ≡ and_then (block_step (limits job) f (record { offset = end; line = x.at.line }) b (begun counted i.measure g))
-          (onward (stretch (limits job) f (record { offset = end; line = x.at.line }) (lines (drop end t))))
-      turn_begun b q =
-          let d = decoded-instruction (reader_of f g.state) t x.at.offset i end decodes in
-          block_here (begin-done (limits job) f x.at.line (line_at t x.at.offset) g may i d.0) ∙ rw (same-counted, d.1, q) refl
-
--- ---- The loop over the blocks
-
--- Whoever carries out the stretch from a block on has carried out the whole. So:
 module _
-    (job : Job) (f : Frame) (t : List ℕ) (x : Ahead) (g : Progress) {l l₀ : Lent} {k₀ : ℕ} {whole : Out (Made Stretch)}
-    (lead : Leads entries_of_stretch job l g.entries (here job f t x g) l₀ k₀ whole) where
-  -- a refusal ends it,
-  pub block_refused : {after : Lent} {e : Refused} → here job f t x g ≡ Err e → Ran entries_of_stretch job (Err e) l₀ after k₀ whole
-  block_refused {after} {e} h = leads_as h lead (Err e) after ran-refused
+    (f : Frame) (g left : Progress) {t : List ℕ} {x : Ahead} {next : Option Ahead} {result : Out (Block × Location)} (is : next ≡ Some x)
+    (known : KnownAhead (reader_of f g.state) t next)
+    (begins : (f : Frame) → Known (reader_of f g.state) t x → begun_of result left ≡ begin_at (limits f.job) f t x.at g) where
+  begins_as : (o : Out (Block × Location)) → result ≡ o → begin_at (limits f.job) f t x.at g ≡ begun_of o left
+  begins_as o e = sym (begins f (known_at is known)) ∙ ap (λ (o : Out (Block × Location)). begun_of o left) e
 
-  -- and so does a block that is not direct;
-  pub block_ends :
-      {s : Stretch} → s.progress.entries ≡ g.entries → here job f t x g ≡ no_entry s → Ran entries_of_stretch job (Ok s) l₀ l k₀ whole
-  block_ends {s} n h = leads_as h lead (Ok s) l (subst (λ (k : ℕ). Ran entries_of_stretch job (Ok s) l l k (no_entry s)) n ran_no_entry)
+  module _ {b : Block} {end : Location} (ok : result ≡ Ok (b, end)) where
+    begun_here : (left.entries ≡ g.entries) × (end ≡ line_end_at t x.at)
+    begun_here = begin_at-ok (limits f.job) f t x.at g (begins_as (Ok (b, end)) ok)
 
-  module _
-      (made : Out (Made Progress)) (rest : Progress → Out (Made Stretch))
-      (h : here job f t x g ≡ and_then (map_after going made) (onward rest)) where
-    -- a direct block that is refused ends it,
-    pub carry_refused : {after : Lent} {e : Refused} → Ran entries_made job (Err e) l after g.entries made → Ran entries_of_stretch job (Err e) l₀ after k₀ whole
-    carry_refused ran = leads_out (map_after going made) (onward rest) (ran-map going (λ p. refl) made ran) (leads_as h lead)
+    -- its line ends behind its place, and within the text
+    turn_behind : (x.at.offset < end.offset) × (end.offset ≤ length t)
+    turn_behind =
+        let k = known_at is known in
+        let o = ap (λ (l : Location). l.offset) begun_here.1 in (
+          omega (arith, o, line-goes_on t x.at.offset k.inside k.block),
+          omega (arith, o, line-inside t x.at.offset (omega (arith, k.inside))),
+        )
 
-    -- and past one that is not, whoever carries out what follows has done so.
-    pub carry_on : {mid : Lent} {left : Progress} → Ran entries_made job (Ok left) l mid g.entries made → Leads entries_of_stretch job mid left.entries (rest left) l₀ k₀ whole
-    carry_on ran = leads_on (map_after going made) (onward rest) (ran-map going (λ p. refl) made ran) (leads_as h lead)
+    -- so that the lines behind it fit
+    pub turn_fits : LinesFit end t
+    turn_fits =
+        let k = known_at is known in
+        let l = ap (λ (l : Location). l.line) begun_here.1 in
+        omega (arith, l, k.fits, k.inside, turn_behind.0, turn_behind.1)
 
--- at the end of the text nothing is left
-pub stretch_over :
-    {job : Job} {g : Progress} {l l₀ : Lent} {k₀ : ℕ} {whole : Out (Made Stretch)}
-    → Leads entries_of_stretch job l g.entries (no_entry (going g)) l₀ k₀ whole → Ran entries_of_stretch job (Ok (going g)) l₀ l k₀ whole
-stretch_over lead = leads_end lead
+    -- and less is left there
+    pub turn_less : (r : Reader) (after : Option Ahead) → after ≡ ahead r t end → left_by t after < left_by t next
+    turn_less r after e = rw is (left_ahead r t end after e x.at.offset turn_behind.0 (known_at is known).inside)
+
+  module _ {l l₀ : Lent} {k₀ : ℕ} {whole : Out (Made Stretch)} (lead : Leads entries_of_stretch f.job l g.entries (rest_by (limits f.job) f t g next) l₀ k₀ whole) where
+    lead_here : (o : Out (Block × Location)) → result ≡ o → Leads entries_of_stretch f.job l g.entries (block_and_on (limits f.job) f t (begun_of o left)) l₀ k₀ whole
+    lead_here o e =
+        let k = known_at is known in
+        leads_as (ap (rest_by (limits f.job) f t g) is ∙ stretch-block (limits f.job) f t x.at g k.inside k.block ∙ ap (block_and_on (limits f.job) f t) (begins_as o e)) lead
+
+    -- a block that is refused ends the stretch,
+    pub turn_refused : {after : Lent} {e : Refused} → result ≡ Err e → Ran entries_of_stretch f.job (Err e) l₀ after k₀ whole
+    turn_refused {after} {e} err = lead_here (Err e) err (Err e) after ran-refused
+
+    -- and past one that has begun, its step is left, and what follows it.
+    pub turn_begun :
+        {b : Block} {end : Location} → result ≡ Ok (b, end)
+        → Leads entries_of_stretch f.job l left.entries (and_then (block_step (limits f.job) f end b left) (onward (stretch (limits f.job) f end (lines (drop end.offset t))))) l₀ k₀ whole
+    turn_begun {b} {end} ok = rw (← (begun_here ok).0) at (lead_here (Ok (b, end)) ok)

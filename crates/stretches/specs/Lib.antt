@@ -1,3 +1,3 @@
+pub mod Hits
 pub mod Lookahead
-pub mod Plain
 pub mod Stretches

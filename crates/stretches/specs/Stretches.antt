@@ -1,8 +1,7 @@
 -- Direct blocks one after another: what they make, and at which block they end. They are carried out alike in a body and
 -- outside bodies.
-use Rattle.std.specs.Prelude.{List, [], ◌∷◌, ℕ, suc, ◌+◌, ◌-◌, ◌<◌, length, Option, Some, None}
+use Rattle.std.specs.Prelude.{List, [], ◌∷◌, ℕ, suc, ◌+◌, length, Ok, Err, Option, Some, None}
 use Rattle.aries.specs.declared.block.Block.{Block}
-use Rattle.aries.specs.declared.block.Block.TheVariants as Block
 use Rattle.aries.specs.declared.location.Location.{Location}
 use Rattle.aries.specs.declared.state.Frame.{Frame}
 use Rattle.aries.specs.declared.state.Progress.{Progress}
@@ -11,9 +10,33 @@ use Rattle.aries.specs.Entries.{Made, no_entry, and_then, map_after}
 use Rattle.aries.specs.Judging.{Judging, limits}
 use Rattle.aries.specs.Macros.{carry_direct, Begun, begin}
 use Rattle.aries.specs.Runs.{Lent, Ran}
+use Rattle.text.specs.Lines.{line_at, line_end}
 use Rattle.stretches.specs.declared.Sequel.{Sequel}
-use Rattle.stretches.specs.declared.Sequel.TheVariants as Sequel
-use Rattle.stretches.specs.declared.Stretch.{Stretch}
+
+-- ---- A block begins
+
+-- a block that has begun, in a line that ends at a place, with what the progress is then
+abbrev pub begun_of : Out (Block × Location) → Progress → Out (Begun × Location)
+begun_of (Ok (b, end)) g = Ok (record { block = b; progress = g }, end)
+begun_of (Err e) g = Err e
+
+-- a block begins, in the line at a place of a text
+abbrev pub begin_at : Judging → Frame → List ℕ → Location → Progress → Out (Begun × Location)
+begin_at j f t at g = do
+  x ← begin j f at.line (line_at t at.offset) g
+  Ok (x, record { offset = line_end t at.offset; line = at.line })
+
+-- ---- Stretches
+
+-- what a stretch leaves, and the block that comes after it, which has begun; none at the end of the text
+pub record Stretch : Type 0 where
+  pub progress : Progress
+  pub sequel : Option Sequel
+
+-- the block, with what the progress is then
+abbrev pub left_at : Out (Option Sequel) → Progress → Out Stretch
+left_at (Ok sequel) g = Ok (record { progress = g; sequel = sequel })
+left_at (Err e) g = Err e
 
 -- so far, and on
 abbrev pub going : Progress → Stretch
@@ -56,10 +79,6 @@ unfoldable pub stretch : Judging → Frame → Location → List (List ℕ) → 
 stretch j f from [] g = no_entry (going g)
 stretch j f from (l ∷ ls) g =
     and_then (line_step j f (end_of from (length l)) l g) (onward (stretch j f (behind (end_of from (length l))) ls))
-
--- the numbers of the lines from a place on fit 64 bits
-abbrev pub LinesFit : Location → List ℕ → Type 0
-LinesFit from t = from.line + (length t - from.offset) < 18446744073709551616
 
 abbrev pub entries_of_stretch : Stretch → ℕ
 entries_of_stretch s = s.progress.entries

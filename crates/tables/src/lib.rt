@@ -40,6 +40,7 @@ pub fn read_table(text: &[u8], table: &mut [i32]) -> Result<usize, BadLine>
             continue;
         }
         let bad = BadLine {
+            // usize has no From into u64
             line: before as u64 + 1,
         };
         let row = read_row(line).ok_or(bad)?;

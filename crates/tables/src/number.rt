@@ -65,5 +65,6 @@ pub fn read_tool(line: &[u8]) -> Option<(i32, &[u8])>
     if number.value == 0 {
         return None;
     }
+    // six digits fit
     Some((number.value as i32, rest))
 }

@@ -46,9 +46,5 @@ pub fn read_row(line: &[u8]) -> Option<Row>
     let (x, rest) = read_length(past_spaces(line))?;
     let (y, rest) = read_length(parted(rest)?)?;
     let (tool, rest) = read_tool(parted(rest)?)?;
-    if is_blank(rest) {
-        Some(Row { x, y, tool })
-    } else {
-        None
-    }
+    is_blank(rest).then_some(Row { x, y, tool })
 }

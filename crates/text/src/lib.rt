@@ -67,7 +67,7 @@ fn copy_without_spaces(text: &[u8], buffer: &mut [u8]) -> usize
 {
     let mut n = 0;
     for &b in text {
-        // the place past what was copied may be written in vain
+        // the place past what was copied may be written in vain; of places that `iter_mut` hands out nothing is promised for the whole
         buffer[n] = b;
         if b != SPACE {
             n += 1;
@@ -133,6 +133,7 @@ fn count_blank_eights(text: &[u8]) -> usize
 fn count_feeds(text: &[u8]) -> u64
     ensures { result ≡ count_by is_feed text.now }
 {
+    // usize has no From into u64
     text.iter().filter(|b| **b == LINE_FEED).count() as u64
 }
 

@@ -1,7 +1,7 @@
 -- How a text ends: the answer of `perform` and of `expand`, with the list and the tally that they leave.
 use Rattle.std.specs.Prelude.{Option, Some, None, Ok, Err}
 use mathlib.Core.Path.{◌≡◌, refl, sym, ap, subst, ◌∙◌}
-use mathlib.Core.Bool.{Bool, true, false}
+use mathlib.Core.Bool.{true, false}
 use mathlib.Core.List.{List, [], ◌++◌}
 use Prim.Native.Nat.{ℕ, ◌-◌, ◌*◌, ◌/◌, ◌<◌, ◌≤◌}
 use native.Mathlib.Omega.{arith}
@@ -21,7 +21,7 @@ use Rattle.aries.specs.Program.{fresh_program, is_ended, run_from, perform, expa
 use Rattle.aries.specs.Runs.{Lent, lent_both, over, entries_of_program, Ran}
 use Rattle.aries.specs.Tally.{no_tally}
 use Rattle.aries.specs.Tallying.{too_wide}
-use Rattle.aries.proofs.Outcomes.{refused≢done, err_as}
+use Rattle.aries.proofs.Outcomes.{err≢ok, err_injective}
 use Rattle.aries.proofs.Runs.{Accepted, accepted_as, refused_out}
 use Rattle.aries.proofs.Tally.{tally_none}
 use Rattle.aries.proofs.Tallied.{over-tally}
@@ -35,7 +35,7 @@ use Rattle.tolkjirp.proofs.Lists.{cleared, cleared_past}
 -- a refusal leaves list and tally free
 pub accepts-refused : {list : List ℤ} {tally : List ℕ} {numbers : ℕ} {out : Out (List Entry)} {e : Refused} → out ≡ Err e → Accepts (Err e) list tally numbers out
 accepts-refused {e = e} is =
-    rw is (record { answered = refl; listed = λ entries q. absurd (refused≢done e entries q); tallied = λ entries q. absurd (refused≢done e entries q) })
+    rw is (record { answered = refl; listed = λ entries q. absurd (err≢ok e entries q); tallied = λ entries q. absurd (err≢ok e entries q) })
 
 -- ---- The blocks of a text
 
@@ -93,8 +93,8 @@ module _ (setting : Setting) (list after : List ℤ) (tally : List ℕ) (text : 
 
 -- what cleaning answers tells whether a byte is stray
 pub stray_found : (found : Option ℕ) (dense : List ℕ) (line : ℕ) → cleaned found dense ≡ refused StrayByte line → found ≡ Some line
-stray_found (Some l) dense line e = ap (λ (r : Refused). Some r.line) (err_as _ _ e)
-stray_found None dense line e = absurd (refused≢done _ _ (sym e))
+stray_found (Some l) dense line e = ap (λ (r : Refused). Some r.line) (err_injective _ _ e)
+stray_found None dense line e = absurd (err≢ok _ _ (sym e))
 
 module _ (setting : Setting) (text : List ℕ) (numbers : ℕ) where
   pub after_stray : {line : ℕ} → stray_line 1 text ≡ Some line → after_cleaning setting text numbers ≡ refused StrayByte line

@@ -11,6 +11,7 @@ fn three_numbers(answer: Result<usize, Refused>) -> [u64; 3]
     ensures { result ≡ three_numbers answer }
 {
     match answer {
+        // usize has no From into u64
         Ok(count) => [0, count as u64, 0],
         Err(refused) => [u64::from(refused.refusal.number()), 0, refused.line],
     }

@@ -6,7 +6,7 @@ pub mod exported; // the function that tolkjirp_c exports
 ghost use Rattle.std.specs.Prelude.{◌≡◌, ◌++◌, ◌-◌, ◌≤◌, pos, length, take, replicate};
 ghost use Rattle.aries.specs.Text.{lines, longest};
 ghost use Rattle.aries.specs.Judging.{lending};
-ghost use Rattle.aries.specs.Program.{is_ended, perform, expand};
+ghost use Rattle.aries.specs.Program.{perform, expand};
 ghost use Rattle.tolkjirp.specs.Answers.{Accepts, Answers};
 ghost use Rattle.tolkjirp.specs.Cleaned.{after_cleaning};
 
@@ -35,13 +35,6 @@ fn clear_from(list: &mut [i32], from: usize)
     list[from..].fill(0);
 }
 
-// Whether G50 has come.
-fn is_ended(stage: Stage) -> bool
-    ensures { result ≡ is_ended stage }
-{
-    matches!(stage, Stage::Ended)
-}
-
 // The blocks of a text without its spaces; whole is the text with them, whose last line a missing G50 is refused in.
 #[tactic(auto, unfolding(aries::specs::Program::perform))]
 fn perform(
@@ -57,7 +50,7 @@ fn perform(
     let job = Job::lending(setting, list.len());
     tallies::clear(tally);
     let left = run_text(job, list, tally, text)?;
-    if !is_ended(left.stage) {
+    if left.stage != Stage::Ended {
         return Err(Refusal::OutOfPlace.at(text::count_lines(whole)));
     }
     let entries = left.progress.entries;
@@ -91,7 +84,7 @@ fn expand_text(
 ) -> Result<usize, Refused>
     ensures { Accepts result list.new tally.new (length list.old) (expand setting text.now (length list.old)) }
 {
-    let stated = Setting::of(setting);
+    let stated = Setting::from(setting);
     match text.len() {
         1..=TINY => expand_within::<TINY>(stated, text, list, tally),
         1..=SHORT => expand_within::<SHORT>(stated, text, list, tally),

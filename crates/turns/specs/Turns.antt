@@ -1,17 +1,14 @@
 -- What blocks leave that need no stored bodies, and what is left of a text behind them.
-use Rattle.std.specs.Prelude.{◌≡◌, true, List, ℕ, ◌+◌, drop, Option, IfOk}
+use Rattle.std.specs.Prelude.{◌≡◌, true, List, ℕ, ◌+◌, drop, Ok, Err, Option, IfOk}
 use Rattle.aries.specs.declared.block.Block.{Block}
 use Rattle.aries.specs.declared.block.Layout.{Layout}
 use Rattle.aries.specs.declared.block.Outside.TheVariants as Outside
 use Rattle.aries.specs.declared.location.Location.{Location}
-use Rattle.aries.specs.declared.macros.Macros.{Macros}
 use Rattle.aries.specs.declared.point.Point.{Point}
 use Rattle.aries.specs.declared.refusal.Refusal.TheVariants.{OutOfPlace}
 use Rattle.aries.specs.declared.setup.Program.{Program}
-use Rattle.aries.specs.declared.setup.Setup.{Setup}
 use Rattle.aries.specs.declared.setup.Stage.{Stage}
 use Rattle.aries.specs.declared.setup.Stage.TheVariants.{Fresh, Running, Storing, Ended}
-use Rattle.aries.specs.declared.state.Progress.{Progress}
 use Rattle.aries.specs.Outcome.{Out, ◌>>=◌, need}
 use Rattle.aries.specs.Text.{lines}
 use Rattle.aries.specs.Entries.{Made, and_then}
@@ -23,17 +20,18 @@ use Rattle.turns.specs.declared.turn.Called.{Called}
 use Rattle.turns.specs.declared.turn.Called.TheVariants.{Macro, Part}
 use Rattle.turns.specs.declared.turn.Next.{Next}
 use Rattle.turns.specs.declared.turn.Next.TheVariants.{Line, Run, Open}
-use Rattle.turns.specs.declared.turn.Turn.{Turn}
 
 -- ---- What is left of a text
 
--- a program by its parts
-abbrev pub program : Stage → Setup → Macros → Progress → Program
-program stage s m g = record { stage = stage; setup = s; macros = m; progress = g }
+-- a program between two blocks, and what comes next
+pub record Turn : Type 0 where
+  pub program : Program
+  pub next : Next
 
--- a program under way, with its stored bodies
-abbrev pub at : Turn → Macros → Program
-at r m = program r.stage r.setup m r.progress
+-- what comes next, with what the program is then
+abbrev pub left_at : Out Next → Program → Out Turn
+left_at (Ok next) p = Ok (record { program = p; next = next })
+left_at (Err e) p = Err e
 
 -- a block that has begun and is in its place, in a line that ends at a place
 abbrev pub carried : Judging → List ℕ → Location → Block → Program → Out (Made Program)
@@ -62,10 +60,10 @@ left_of j t (Run c end) p = and_then (carried j t end (block_of c) p) (lines_fro
 left_of j t (Open n end) p = and_then (carried j t end (Block.Outside (Outside.Open n)) p) (lines_from j t end)
 
 -- what is left after a turn, or its refusal
-abbrev pub left_after : Judging → List ℕ → Macros → Out Turn → Out (Made Program)
-left_after j t m out = do
+abbrev pub left_after : Judging → List ℕ → Out Turn → Out (Made Program)
+left_after j t out = do
   r ← out
-  left_of j t r.next (at r m)
+  left_of j t r.next r.program
 
 -- ---- Where it lies
 
@@ -78,8 +76,8 @@ place_of (Open n end) = end
 -- ---- How far it reaches
 
 -- an origin that is near, and letters given that are no longer than words are
-abbrev pub Near : Setup → Progress → Type 0
-Near s g = (near s.origin ≡ true) × GivenNear g.state
+abbrev pub Near : Program → Type 0
+Near p = (near p.setup.origin ≡ true) × GivenNear p.progress.state
 
 -- a call in a block, if it is one
 abbrev pub CalledNear : Called → Type 0
@@ -94,7 +92,7 @@ NextNear (Open n end) = Unit {0}
 
 -- a turn leaves them so, and what comes next
 abbrev pub TurnNear : Turn → Type 0
-TurnNear r = Near r.setup r.progress × NextNear r.next
+TurnNear r = Near r.program × NextNear r.next
 
 -- ---- Contracts
 
@@ -106,19 +104,19 @@ Alone Storing = ⊥
 Alone Ended = Unit {0}
 
 -- a turn that makes no entry, in a line that ends at a place
-pub record Quiet (end : Location) (s : Setup) (g : Progress) (r : Turn) : Type 0 where
-  pub entries : r.progress.entries ≡ g.entries
-  pub job : r.setup.job ≡ s.job
+pub record Quiet (end : Location) (p : Program) (r : Turn) : Type 0 where
+  pub entries : r.program.progress.entries ≡ p.progress.entries
+  pub job : r.program.setup.job ≡ p.setup.job
   pub comes : place_of r.next ≡ end
-  pub near : Near s g → TurnNear r
+  pub near : Near p → TurnNear r
 
 -- Something that makes no entry, in a line that ends at a place: what is left is the same as before.
-pub record Leaves (out : Out Turn) (end : Location) (s : Setup) (g : Progress) (what : Judging → List ℕ → Macros → Out (Made Program)) : Type 0 where
-  pub same : (t : List ℕ) (m : Macros) → left_after (limits s.job) t m out ≡ and_then (what (limits s.job) t m) (lines_from (limits s.job) t end)
-  pub quiet : IfOk out (Quiet end s g)
+pub record Leaves (out : Out Turn) (end : Location) (p : Program) (what : Judging → List ℕ → Out (Made Program)) : Type 0 where
+  pub same : (t : List ℕ) → left_after (limits p.setup.job) t out ≡ and_then (what (limits p.setup.job) t) (lines_from (limits p.setup.job) t end)
+  pub quiet : IfOk out (Quiet end p)
 
-abbrev pub SetsOrigin : Out Turn → Location → Option Layout → Point → Setup → Progress → Type 0
-SetsOrigin out end sheet offset s g = Leaves out end s g (λ j t m. settled (program Running s m g) (set_origin j end.line sheet offset s))
+abbrev pub SetsOrigin : Out Turn → Location → Option Layout → Point → Program → Type 0
+SetsOrigin out end sheet offset p = Leaves out end p (λ j t. settled p (set_origin j end.line sheet offset p.setup))
 
-abbrev pub Settles : Out Turn → Location → Block → Stage → Setup → Progress → Type 0
-Settles out end b stage s g = Leaves out end s g (λ j t m. placed j t end b (program stage s m g))
+abbrev pub Settles : Out Turn → Location → Block → Program → Type 0
+Settles out end b p = Leaves out end p (λ j t. placed j t end b p)

@@ -2,15 +2,14 @@ ghost use Rattle.std.specs.Prelude.{◌≡◌};
 ghost use Rattle.aries.specs.Moves.{◌⊕◌};
 ghost use Rattle.aries.specs.WidePoints.{point_of};
 ghost use Rattle.aries.specs.Setup.{reference_of};
-ghost use Rattle.turns.specs.Turns.{SetsOrigin};
+ghost use Rattle.turns.specs.Turns.{left_at, SetsOrigin};
 
-use crate::turn::{Next, Turn};
+use crate::turn::Next;
 use aries::block::Layout;
 use aries::location::Location;
 use aries::point::{Point, WidePoint};
 use aries::refusal::{Refusal, Refused};
-use aries::setup::{self, Setup};
-use aries::state::Progress;
+use aries::setup::{self, Program};
 
 // Reference plus offset.
 fn origin_place(sheet: Option<Layout>, offset: Point) -> WidePoint
@@ -29,14 +28,12 @@ pub fn set_origin(
     end: Location,
     sheet: Option<Layout>,
     offset: Point,
-    setup: Setup,
-    progress: Progress,
-) -> Result<Turn, Refused>
-    ensures { SetsOrigin result end sheet offset setup progress }
+    program: &mut Program,
+) -> Result<Next, Refused>
+    ensures { SetsOrigin (left_at result program.new) end sheet offset program.old }
 {
-    let Some(origin) = origin_place(sheet, offset).located() else {
-        return Err(Refusal::TooFar.at(end.line));
-    };
-    let moved = setup.with_origin(sheet, offset, origin);
-    Ok(Turn::running(moved, progress, Next::Line(end)))
+    let place = origin_place(sheet, offset);
+    let origin = place.located().ok_or(Refusal::TooFar.at(end.line))?;
+    program.setup = program.setup.with_origin(sheet, offset, origin);
+    Ok(Next::Line(end))
 }

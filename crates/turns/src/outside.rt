@@ -1,63 +1,48 @@
+ghost use Rattle.std.specs.Prelude.{◌≡◌};
 ghost use Rattle.aries.specs.declared.setup.Stage.TheVariants.{Running};
-ghost use Rattle.turns.specs.Turns.{Alone, Settles};
+ghost use Rattle.turns.specs.Turns.{Alone, left_at, Settles};
 
 use crate::origins::set_origin;
-use crate::turn::{Called, Next, Turn};
+use crate::turn::{Called, Next};
 use aries::block::{Block, Outside};
 use aries::location::Location;
 use aries::machine::Machine;
 use aries::refusal::{Refusal, Refused};
-use aries::setup::{Setup, Stage};
-use aries::state::Progress;
+use aries::setup::{Program, Stage};
 
 // A block before G92 or after G50, which has begun in a line that ends at a place: only G92 may come, and that first.
 #[tactic(auto, unfolding(crate::specs::Turns::placed, aries::specs::Program::carry_out, aries::specs::Program::carry_outside))]
-pub fn start(
-    end: Location,
-    block: Block,
-    stage: Stage,
-    setup: Setup,
-    progress: Progress,
-) -> Result<Turn, Refused>
-    requires { Alone stage }
-    ensures { Settles result end block stage setup progress }
+pub fn start(end: Location, block: Block, program: &mut Program) -> Result<Next, Refused>
+    requires { Alone program.old.stage }
+    ensures { Settles (left_at result program.new) end block program.old }
 {
-    let (Stage::Fresh, Block::Outside(Outside::Machine(pair))) = (stage, block) else {
+    let (Stage::Fresh, Block::Outside(Outside::Machine(pair))) = (program.stage, block) else {
         return Err(Refusal::OutOfPlace.at(end.line));
     };
-    let Some(machine) = Machine::named(pair) else {
-        return Err(Refusal::NoMachine.at(end.line));
-    };
-    let moved = progress.with_state(progress.state.moved_to(pair));
-    Ok(Turn::running(setup.with_machine(machine), moved, Next::Line(end)))
+    let machine = Machine::named(pair).ok_or(Refusal::NoMachine.at(end.line))?;
+    program.stage = Stage::Running;
+    program.setup = program.setup.with_machine(machine);
+    program.progress.state = program.progress.state.moved_to(pair);
+    Ok(Next::Line(end))
 }
 
 // A block that stands only outside bodies, while the program runs, which has begun in a line that ends at a place.
 #[tactic(auto, unfolding(crate::specs::Turns::placed, aries::specs::Program::carry_out, aries::specs::Program::carry_outside))]
-pub fn settle(
-    end: Location,
-    outside: Outside,
-    setup: Setup,
-    progress: Progress,
-) -> Result<Turn, Refused>
-    ensures { Settles result end (Block.Outside outside) Running setup progress }
+pub fn settle(end: Location, outside: Outside, program: &mut Program) -> Result<Next, Refused>
+    requires { program.old.stage ≡ Running }
+    ensures { Settles (left_at result program.new) end (Block.Outside outside) program.old }
 {
+    let setup = program.setup;
     match outside {
         Outside::Machine(_) => Err(Refusal::OutOfPlace.at(end.line)),
-        Outside::End => Ok(Turn {
-            stage: Stage::Ended,
-            setup,
-            progress,
-            next: Next::Line(end),
-        }),
-        Outside::Offset(axes) => {
-            set_origin(end, setup.sheet, axes.over(setup.offset), setup, progress)
+        Outside::End => {
+            program.stage = Stage::Ended;
+            Ok(Next::Line(end))
         }
-        Outside::Layout(layout) => set_origin(end, Some(layout), setup.offset, setup, progress),
-        Outside::Open(number) => Ok(Turn::running(setup, progress, Next::Open(number, end))),
+        Outside::Offset(axes) => set_origin(end, setup.sheet, axes.over(setup.offset), program),
+        Outside::Layout(layout) => set_origin(end, Some(layout), setup.offset, program),
+        Outside::Open(number) => Ok(Next::Open(number, end)),
         Outside::Close(_) => Err(Refusal::NotClosed.at(end.line)),
-        Outside::Copy(copies) => {
-            Ok(Turn::running(setup, progress, Next::Run(Called::Part(copies), end)))
-        }
+        Outside::Copy(copies) => Ok(Next::Run(Called::Part(copies), end)),
     }
 }

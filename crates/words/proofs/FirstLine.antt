@@ -1,7 +1,10 @@
 -- Laws of the first line of a text: its bytes and those of the text pass the same tests, so that what is read of the one
 -- is read of the other.
 -- Assumes nothing.
-use Rattle.std.specs.Prelude.{Option}
+use Rattle.std.specs.Prelude.{None, Some, Option}
+use Rattle.std.specs.Option.{option_map_or}
+use Rattle.std.specs.Slice.{IsItemAt}
+use denote.Ref.{Bor}
 use mathlib.Core.Path.{◌≡◌, refl, sym, ap, ◌∙◌}
 use mathlib.Core.Bool.{Bool, true, false, cond}
 use mathlib.Core.List.{List, [], ◌∷◌}
@@ -13,8 +16,8 @@ use lib.Seq.{length-take-le, get_or-take}
 use borrow.Author.Tests.{eqb-true, eqb-false, ltb-true, ltb-false, ne_eqb}
 use Rattle.aries.specs.Text.{line_feed, point, is_capital, is_digit}
 use Rattle.aries.specs.Words.{Digits, digits, is_sign, front_size, word}
-use Rattle.text.specs.Lines.{line_length}
-use Rattle.text.proofs.Lines.{line-ends, line-goes_on, line-short, feed_after}
+use Rattle.text.specs.Lines.{is_feed, line_length}
+use Rattle.text.proofs.Lines.{line-ends, line-goes_on, line-past, line-short, feed_after}
 use Rattle.words.specs.declared.Number.{Number}
 use Rattle.words.specs.Line.{first_line}
 use Rattle.words.specs.Reading.{number_of, number}
@@ -43,13 +46,20 @@ line-drop (suc k) (b ∷ bs) h = go (eqb b line_feed) refl (line-drop k bs)
         rw n (rest (omega arith))
 
 -- it is empty where a line feed stands
-pub line-empty :
-    (t : List ℕ) (i : ℕ) → i < length t → eqb (line_length (drop i t)) 0 ≡ eqb (get_or t i 0) line_feed
-line-empty t i h = go (eqb (get_or t i 0) line_feed) refl
+line-empty :
+    (t : List ℕ) (i : ℕ) → i < length t → eqb (line_length (drop i t)) 0 ≡ is_feed (get_or t i 0)
+line-empty t i h = go (is_feed (get_or t i 0)) refl
   where
-    go : (f : Bool) → eqb (get_or t i 0) line_feed ≡ f → eqb (line_length (drop i t)) 0 ≡ f
+    go : (f : Bool) → is_feed (get_or t i 0) ≡ f → eqb (line_length (drop i t)) 0 ≡ f
     go true e = rw (line-ends t i h (eqb-true (get_or t i 0) line_feed e))
     go false e = rw (line-goes_on t i h (eqb-false (get_or t i 0) line_feed e)) (ne_eqb (suc (line_length (drop (i + 1) t))) 0 (λ z. omega arith))
+
+-- and past the end of the text: by the byte that is read there, if there is one
+pub line_end_told :
+    (t : List ℕ) (i : ℕ) (r : Option (Bor ℕ)) → IsItemAt t i r
+    → eqb (line_length (drop i t)) 0 ≡ option_map_or (λ (b : Bor ℕ). is_feed b.now) r true
+line_end_told t i None e = rw (line-past t i e.3)
+line_end_told t i (Some b) e = line-empty t i e.3.0 ∙ sym (ap is_feed (e.4 (omega arith) 0))
 
 -- a byte of the line, or the one behind it, and the byte of the text there, for what does not tell a line feed from the
 -- end of the text

@@ -10,7 +10,7 @@ pub struct Digits {
     pub count: usize,
 }
 
-// The byte at a place, 0 past the end.
+// The byte at a place, 0 past the end, as the definitions read on; no test takes a 0.
 pub fn byte_at(text: &[u8], at: usize) -> u8
     ensures { result ≡ get_or text.now at 0 }
 {
@@ -35,7 +35,7 @@ pub fn read_digits(text: &[u8], from: usize, most: usize) -> Digits
         if !b.is_ascii_digit() {
             return Digits { value, count };
         }
-        value = value * 10 + (b - b'0') as u32;
+        value = value * 10 + u32::from(b - b'0');
     }
     Digits { value, count: most }
 }

@@ -1,4 +1,5 @@
-// The words of a block: digits, a word, and all words of a line by their letters.
+// The words of a block: digits, a word, and all words of a line by their letters. Places of the text go from function to function, not what
+// is left of it, since a body is stored by its places.
 #![tactic(auto)]
 
 ghost use Rattle.std.specs.Prelude.{◌≡◌, [], cond, ◌+◌, ◌^◌, ◌≤◌, ◌<◌, eqb, drop};
@@ -13,8 +14,7 @@ pub mod digits; // digits, and tests of a byte
 use crate::digits::{byte_at, hundredths_of, is_sign, read_digits};
 use aries::word::{Word, Words};
 use signed::with_sign;
-
-const LINE_FEED: u8 = 10;
+use text::LINE_FEED;
 
 // A number that was read: its value, in hundredths where it has a point, and how many bytes it takes.
 #[derive(Clone, Copy)]
@@ -36,11 +36,7 @@ struct Reading {
 fn is_line_end(text: &[u8], at: usize) -> bool
     ensures { result ≡ eqb (line_length (drop at text.now)) 0 }
 {
-    if at < text.len() {
-        text[at] == LINE_FEED
-    } else {
-        true
-    }
+    text.get(at).is_none_or(|b| *b == LINE_FEED)
 }
 
 // The number at a place.
@@ -59,8 +55,7 @@ fn read_number(text: &[u8], from: usize) -> Option<Number>
             size: whole.count,
         });
     }
-    let few = whole.count <= 4;
-    if !few {
+    if 4 < whole.count {
         return None;
     }
     let decimals = read_digits(text, end + 1, 2);
@@ -122,9 +117,9 @@ pub struct Line {
     pub words: Words,
     // how many words there are besides N and G
     pub others: usize,
-    // some word has been read
+    // some word has been read, an N or a G too
     pub begun: bool,
-    // a letter stands twice, a code beside another one, or N or A out of its place
+    // a letter stands twice, a code beside another one, or N or A out of its place: 5, which is told once all words have their form
     pub misplaced: bool,
 }
 

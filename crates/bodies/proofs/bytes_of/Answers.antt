@@ -5,7 +5,7 @@ use Prim.Native.Nat.{ℕ, ◌-◌, min}
 use native.Mathlib.Omega.{arith}
 use borrow.Author.Tests.{ltb-true, ltb-false}
 use lib.Dec.{ltb}
-use lib.ListN.{take, drop}
+use lib.ListN.{length, take, drop}
 use Rattle.aries.proofs.Calls.{clipped, part_clipped}
 use Rattle.bodies.proofs.bytes_of.Goals as goal
 
@@ -20,6 +20,6 @@ pub returns : goal.returns
 returns c =
     let text = c.args.text.now in
     let body = c.args.body in
-    let end_is = c.min-end.ensures ∙ min-clipped body.end _ in
-    let start_is = c.min-start.ensures ∙ min-clipped body.start _ ∙ ap (clipped body.start) end_is in
+    let end_is = c.min-end.ensures ∙ ap (λ (n : ℕ). min n (length text)) c.from.ensures ∙ min-clipped body.end _ in
+    let start_is = c.min-start.ensures ∙ ap₂ min c.from-2.ensures end_is ∙ min-clipped body.start _ in
     ap₂ (λ (a b : ℕ). take (b - a) (drop a text)) start_is end_is ∙ part_clipped text body.start body.end

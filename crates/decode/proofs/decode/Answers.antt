@@ -1,10 +1,9 @@
 -- The words are read, judged, and the block of their kind is made from them (`LineWords`); they end where the line does.
-use Rattle.std.specs.Prelude.{Some, Ok}
+use Rattle.std.specs.Prelude.{Some, Ok, Err}
 use borrow.Author.Rules.{rules}
 use mathlib.Core.Path.{◌≡◌, sym, ap, ap₂, ◌∙◌}
 use mathlib.Core.List.{List}
 use Prim.Native.Nat.{ℕ, ◌+◌}
-use Rattle.aries.specs.declared.block.Instruction.{Instruction}
 use Rattle.aries.specs.declared.block.Block.{Block}
 use Rattle.aries.specs.Words.{LetterWord, formed_words, words}
 use Rattle.aries.specs.ByLetter.{Letters}
@@ -16,8 +15,9 @@ use Rattle.words.proofs.FirstLine.{line-length}
 use Rattle.words.proofs.Gathering.{AllFormed, front_formed, ended_ok, ended_err}
 use Rattle.lengths.proofs.Sized.{by_letter_sized}
 use Rattle.blocks.specs.Decoding.{judged_of, line_left}
+use Rattle.decode.proofs.Decoding.{read_formed, read_malformed}
 use Rattle.decode.proofs.LineWords.{instruction_by, judged_decodes, judged-ranged}
-use Rattle.decode.proofs.decode.Goals.{After-judge, After-read, In-Ok}
+use Rattle.decode.proofs.decode.Goals.{After-judge, After-read, In_ok-end}
 use Rattle.decode.proofs.decode.Goals as goal
 
 -- the line at the place, and its words
@@ -31,17 +31,21 @@ module _ (c : After-read) where
   formed : AllFormed ws
   formed = front_formed _ line
 
-pub returns-in_default : goal.returns-in_default
+pub returns-in_err-end : goal.returns-in_err-end
 unfolding decode
-returns-in_default c =
-    let r = (goal.at.returns-in_default c).After-read in
-    rw (ended_err c.args.at (line r) c.in_default.field-0 (sym c.read.ensures.end ∙ c.in_default.is))
+returns-in_err-end c =
+    let r = (goal.at.returns-in_err-end c).After-read in
+    let x = c.in_err-end.field-0.0 in
+    let told = read_malformed c.read.result c.map_err.result x c.map_err.ensures.cases (λ m y q. search rules) c.in_err-end.was in
+    let e : c.from_residual.result ≡ Err x = search rules in
+    rw (e, told.2, ended_err c.args.at (line r) told.0 (sym c.read.ensures.end ∙ told.1))
 
 -- all words have their form
-module _ (c : In-Ok) where
-  ended : (words (line_at c.args.text.now c.args.at) ≡ Some (formed_words (line_at c.args.text.now c.args.at))) × (c.in-Ok.end ≡ line_end c.args.text.now c.args.at)
+module _ (c : In_ok-end) where
+  ended : (words (line_at c.args.text.now c.args.at) ≡ Some (formed_words (line_at c.args.text.now c.args.at))) × (c.in_ok-end.end ≡ line_end c.args.text.now c.args.at)
   ended =
-      let e = ended_ok c.args.at (line_at c.args.text.now c.args.at) c.in-Ok.end (sym c.read.ensures.end ∙ c.in-Ok.is) in
+      let was = read_formed _ c.read.result c.map_err.result c.in_ok-end.end c.map_err.ensures.cases c.in_ok-end.was in
+      let e = ended_ok c.args.at (line_at c.args.text.now c.args.at) c.in_ok-end.end (sym c.read.ensures.end ∙ was) in
       (e.0, e.1 ∙ ap (λ (n : ℕ). c.args.at + n) (line-length _))
 
 pub judge-requires : goal.judge-requires
@@ -84,7 +88,7 @@ pub returns : goal.returns
 returns c =
     let g = goal.at.returns c in
     let j = g.After-judge in
-    let e = ended g.In-Ok in
+    let e = ended g.In_ok-end in
     rw (decodes j e.0 ∙ ap (instruction_by (left j)) c.in_ok-kind.was)
     (ap₂ (λ (b : Block) (n : ℕ). Ok (record { measure = c.in_ok-kind.measure; block = b }, n)) c.block_of-block.ensures e.1)
 
@@ -92,4 +96,4 @@ pub returns-in_err-kind : goal.returns-in_err-kind
 returns-in_err-kind c =
     let g = goal.at.returns-in_err-kind c in
     let j = g.After-judge in
-    rw (decodes j (ended g.In-Ok).0 ∙ ap (instruction_by (left j)) c.in_err-kind.was) (search rules)
+    rw (decodes j (ended g.In_ok-end).0 ∙ ap (instruction_by (left j)) c.in_err-kind.was) (search rules)

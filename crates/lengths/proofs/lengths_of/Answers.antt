@@ -2,7 +2,7 @@
 use mathlib.Core.Path.{refl, sym, ap}
 use mathlib.Core.List.{[], ◌∷◌}
 use borrow.Author.Rules.{rules}
-use Rattle.aries.specs.declared.block.Kind.TheVariants.{G26, G28, G36, G37, G50, G70, G72, G73, G75, G76, G92, G93, Position, Lone, LetterM, LetterB, LetterU, LetterV, LetterW, Unknown}
+use Rattle.aries.specs.declared.block.Kind.TheVariants.{G26, G28, G36, G37, G50, G70, G72, G73, G75, G76, G92, G93, Position, Lone, LetterM, LetterB, LetterU, LetterV, LetterW}
 use Rattle.aries.specs.Text.{bytes}
 use Rattle.aries.specs.Numbers.{lengths_of}
 use Rattle.lengths.proofs.Arms.{alike}
@@ -31,4 +31,4 @@ returns-in-G98 c = rw c.in-G98.is
 pub returns-in_default : goal.returns-in_default
 unfolding bytes
 returns-in_default c =
-    sym (ap bytes (alike lengths_of c.args.kind (G50 ∷ G75 ∷ G76 ∷ Lone ∷ LetterM ∷ LetterB ∷ LetterU ∷ LetterV ∷ LetterW ∷ Unknown ∷ []) refl (search rules)))
+    sym (ap bytes (alike lengths_of c.args.kind (G50 ∷ G75 ∷ G76 ∷ Lone ∷ LetterM ∷ LetterB ∷ LetterU ∷ LetterV ∷ LetterW ∷ []) refl (search rules)))

@@ -2,22 +2,23 @@
 use mathlib.Core.Path.{refl, sym, ◌∙◌}
 use Rattle.aries.specs.Judging.{limits}
 use Rattle.aries.specs.Bodies.{first_run}
-use Rattle.aries.specs.Macros.{Body}
 use Rattle.aries.specs.Setup.{ordinary_frame}
 use Rattle.aries.proofs.Carried.{carried_no_entry}
+use Rattle.bodies.specs.Stored.{body_of}
 use Rattle.storing.proofs.Opening.{runs_not, runs_once}
 use Rattle.storing.proofs.first_run.Goals as goal
 
 pub returns-then-not-runs_first : goal.returns-then-not-runs_first
 returns-then-not-runs_first c =
     let a = c.args in
-    let b : Body = record { line = a.first; bytes = a.body.now } in
-    carried_no_entry (ordinary_frame a.setup) (λ j. first_run j a.text.now a.macros.now a.number b a.setup) refl refl
-    (runs_not (limits a.setup.job) a.text.now a.macros.now a.number b a.setup a.progress (sym c.runs_first.ensures ∙ c.if-not-runs_first.true))
+    let stored = a.stored in
+    carried_no_entry (ordinary_frame a.setup) (λ j. first_run j stored.text.now stored.macros.now a.number (body_of a.body) a.setup) refl refl
+    (runs_not (limits a.setup.job) stored.text.now stored.macros.now a.number (body_of a.body) a.setup a.progress.now (sym c.runs_first.ensures ∙ c.if-not-runs_first.true))
 
 pub returns : goal.returns
 returns c =
     let a = c.args in
-    let b : Body = record { line = a.first; bytes = a.body.now } in
-    rw (runs_once (limits a.setup.job) a.text.now a.macros.now a.number b a.setup a.progress (sym c.runs_first.ensures ∙ c.if-not-runs_first.false))
-    (rw c.frame-frame.ensures at c.run_blocks.ensures)
+    let stored = a.stored in
+    let source = c.read-source.ensures in
+    rw (runs_once (limits a.setup.job) stored.text.now stored.macros.now a.number (body_of a.body) a.setup a.progress.now (sym c.runs_first.ensures ∙ c.if-not-runs_first.false))
+    (rw (source.same_text, source.same_place, c.start.ensures, c.frame-frame.ensures) at c.run_blocks.ensures)

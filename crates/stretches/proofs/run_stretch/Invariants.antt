@@ -13,10 +13,10 @@ abbrev pub invariant-loop-next : goal.invariant-loop-next
 invariant-loop-next l =
     let j = limits l.frame.job in
     record {
-      known : KnownAhead (reader_of l.frame l.now.state) l.text l.next;
+      known : KnownAhead (reader_of l.frame l.progress.state) l.text l.next;
       leads :
-          Leads entries_of_stretch l.frame.job (lent_both l.list l.tally) l.now.entries (rest_by j l.frame l.text l.now l.next)
-          (lent_both l.initial.list l.initial.tally) l.initial.now.entries (stretch j l.frame l.fn.from (lines (drop l.fn.from.offset l.text)) l.initial.now);
+          Leads entries_of_stretch l.frame.job (lent_both l.list l.tally) l.progress.entries (rest_by j l.frame l.text l.progress l.next)
+          (lent_both l.initial.list l.initial.tally) l.initial.progress.entries (stretch j l.frame l.source.from (lines (drop l.source.from.offset l.text)) l.initial.progress);
     }
 
 abbrev pub decreases-loop-next : goal.decreases-loop-next

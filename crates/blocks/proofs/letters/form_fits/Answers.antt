@@ -4,7 +4,7 @@ use mathlib.Core.Bool.{Bool}
 use mathlib.Core.List.{[], ◌∷◌}
 use borrow.Author.Rules.{rules}
 use Rattle.aries.specs.declared.block.Kind.{Kind}
-use Rattle.aries.specs.declared.block.Kind.TheVariants.{G26, G28, G36, G37, G50, G70, G72, G75, G76, G93, Position, Lone, Unknown}
+use Rattle.aries.specs.declared.block.Kind.TheVariants.{G26, G28, G36, G37, G50, G70, G72, G75, G76, G93, Position, Lone}
 use Rattle.aries.specs.Forms.{form_of}
 use Rattle.aries.specs.Text.{bytes}
 use Rattle.lengths.proofs.Arms.{alike}
@@ -78,4 +78,4 @@ returns-in-LetterW c = rw c.in-LetterW.is c.counts_fit-in-LetterW.ensures
 
 pub returns-in-G50 : goal.returns-in-G50
 unfolding bytes
-returns-in-G50 c = c.counts_fit-in-G50.ensures ∙ sym (alike (counts c.args.line.now) c.args.kind (G50 ∷ Lone ∷ Unknown ∷ []) refl (search rules))
+returns-in-G50 c = c.counts_fit-in-G50.ensures ∙ sym (alike (counts c.args.line.now) c.args.kind (G50 ∷ Lone ∷ []) refl (search rules))

@@ -67,11 +67,11 @@ pattern_block-requires-in-G37 c = tool-and-memory (goal.at.pattern_block-require
 pub pattern_block-requires-in-G66 : goal.pattern_block-requires-in-G66
 pattern_block-requires-in-G66 c = tool-and-memory (goal.at.pattern_block-requires-in-G66 c).Start
 
-pub small-requires : goal.small-requires
-small-requires c = tool (goal.at.small-requires c).Start
+pub small_written-requires : goal.small_written-requires
+small_written-requires c = tool (goal.at.small_written-requires c).Start
 
-pub small-requires-in-Position : goal.small-requires-in-Position
-small-requires-in-Position c = tool (goal.at.small-requires-in-Position c).Start
+pub small_written-requires-in-Position : goal.small_written-requires-in-Position
+small_written-requires-in-Position c = tool (goal.at.small_written-requires-in-Position c).Start
 
 pub mirroring_of-requires : goal.mirroring_of-requires
 mirroring_of-requires c = two (goal.at.mirroring_of-requires c).Start c.in-G73.is letter_w letter_q 255 refl refl
@@ -85,8 +85,8 @@ copies_of-requires-in-G76 c = two (goal.at.copies_of-requires-in-G76 c).Start c.
 pub layout_of-requires-clause-counts : goal.layout_of-requires-clause-counts
 layout_of-requires-clause-counts c = two (goal.at.layout_of-requires-clause-counts c).Start c.in-G98.is letter_p letter_k 999 refl refl
 
-pub small-requires-in-LetterB : goal.small-requires-in-LetterB
-small-requires-in-LetterB c = own (goal.at.small-requires-in-LetterB c).Start c.in-LetterB.is letter_b 255 refl
+pub small-requires : goal.small-requires
+small-requires c = own (goal.at.small-requires c).Start c.in-LetterB.is letter_b 255 refl
 
 pub small-requires-in-LetterU : goal.small-requires-in-LetterU
 small-requires-in-LetterU c = own (goal.at.small-requires-in-LetterU c).Start c.in-LetterU.is letter_u 255 refl

@@ -1,13 +1,21 @@
--- A lane has a number of 16 bits, as steps have.
-use borrow.Author.Rules.{rules}
-use Prim.Native.Nat.{◌≤◌}
-use native.Mathlib.Omega.{arith}
-use Rattle.placing.proofs.CopyPlace.{lane_few}
+-- The column and the row are those of the cursor's place.
+use mathlib.Core.Path.{ap, ◌∙◌}
+use Prim.Native.Nat.{ℕ}
+use Rattle.aries.specs.Layouts.{place_at, copy_place}
+use Rattle.aries.proofs.CopyPlaces.{column_bound, row_bound}
+use Rattle.lanes.specs.Cursors.{passed}
 use Rattle.placing.proofs.Places.copy_place.Goals as goal
 
-pub overflow_cast-lane : goal.overflow_cast-lane
-overflow_cast-lane c =
-    let p = c.args.self in
-    let x : p.layout.steps.x ≤ 65535 = search rules in
-    let y : p.layout.steps.y ≤ 65535 = search rules in
-    omega (arith, lane_few p.layout p.copies x y, c.requires.1)
+pub place_at-requires : goal.place_at-requires
+place_at-requires c =
+    let a = c.args.self in
+    let m = passed c.args.cursor in
+    rw (c.column_and_row-column.ensures a.layout.steps c.requires.last)
+    (column_bound a.copies.vertical a.layout m c.requires.place, row_bound a.copies.vertical a.layout m c.requires.place)
+
+pub returns : goal.returns
+unfolding copy_place
+returns c =
+    let a = c.args.self in
+    c.place_at.ensures
+    ∙ ap (λ (p : ℕ × ℕ). place_at a.origin a.layout a.copies.corner p.0 p.1) (c.column_and_row-column.ensures a.layout.steps c.requires.last)

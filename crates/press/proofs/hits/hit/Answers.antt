@@ -1,5 +1,5 @@
 -- Each way out is the definition's, by the tests on the way; a place that is seen in range is not too far away to be a point.
-use Rattle.std.specs.Prelude.{Err}
+use Rattle.std.specs.Prelude.{Err, Some}
 use mathlib.Core.Path.{◌≡◌, refl, sym, ap, ◌∙◌}
 use native.Mathlib.Omega.{arith}
 use borrow.Author.Rules.{rules}
@@ -7,19 +7,15 @@ use Rattle.aries.specs.WidePoints.{point_of}
 use Rattle.aries.specs.Mirrors.{seen}
 use Rattle.aries.proofs.Steady.{near_within}
 use Rattle.aries.proofs.Judging.{near-x, near-y, covers-near}
-use Rattle.press.specs.Hits.{judged_hit}
 use Rattle.press.proofs.Punch.{hit_outside, hit_inside, entered_at}
 use Rattle.press.proofs.hits.hit.Goals as goal
 
-pub returns-then-tooling-eq0 : goal.returns-then-tooling-eq0
-unfolding judged_hit
-returns-then-tooling-eq0 c = search rules
-
 pub returns-then-not-covers : goal.returns-then-not-covers
 returns-then-not-covers c =
-    let a = c.args in (
-      rw (c.out_of_range.ensures, c.seen-seen.ensures)
-          (hit_outside a.frame (point_of a.place) a.tooling.tool a.entries c.if-tooling-eq0.false (rw c.seen-seen.ensures at c.if-not-covers.ensures)),
+    let a = c.args in
+    let t : a.tooling.tool ≡ Some c.in_ok-tool.tool = rw c.in_ok-tool.was at c.ok_or.ensures.ok_part in (
+      rw (t, c.out_of_range.ensures, c.seen-seen.ensures)
+          (hit_outside a.frame (point_of a.place) a.entries (rw c.seen-seen.ensures at c.if-not-covers.ensures)),
       refl,
     )
 
@@ -40,16 +36,18 @@ pub returns-in_err-enter : goal.returns-in_err-enter
 returns-in_err-enter c =
     let a = c.args in
     let p = point_of a.place in
-    let e : c.from_residual.result ≡ Err c.in_err-enter.field-0.0 = search rules in
-    let i = hit_inside a.frame p a.tooling.tool a.entries c.if-tooling-eq0.false (rw c.seen-seen.ensures at c.if-not-covers.ensures) in
-    rw e (ap (entered_at p) (sym c.in_err-enter.was ∙ c.enter.ensures.0) ∙ i, rw c.in_err-enter.was at c.enter.ensures.1)
+    let t : a.tooling.tool ≡ Some c.in_ok-tool.tool = rw c.in_ok-tool.was at c.ok_or.ensures.ok_part in
+    let e : c.from_residual-in_err-enter.result ≡ Err c.in_err-enter.field-0.0 = search rules in
+    let i = hit_inside a.frame p a.entries (rw c.seen-seen.ensures at c.if-not-covers.ensures) in
+    rw (t, e) (ap (entered_at p) (sym c.in_err-enter.was ∙ c.enter.ensures.0) ∙ i, rw c.in_err-enter.was at c.enter.ensures.1)
 
 pub returns : goal.returns
 returns c =
     let a = c.args in
     let p = point_of a.place in
-    let i = hit_inside a.frame p a.tooling.tool a.entries c.if-tooling-eq0.false (rw c.seen-seen.ensures at c.if-not-covers.ensures) in
-    rw c.narrow-point.ensures (
+    let t : a.tooling.tool ≡ Some c.in_ok-tool.tool = rw c.in_ok-tool.was at c.ok_or.ensures.ok_part in
+    let i = hit_inside a.frame p a.entries (rw c.seen-seen.ensures at c.if-not-covers.ensures) in
+    rw (t, c.narrow-point.ensures) (
       ap (entered_at p) (sym c.in_ok-enter.was ∙ c.enter.ensures.0) ∙ i,
       rw (c.in_ok-enter.was, c.narrow.ensures ∙ c.seen-seen.ensures) at c.enter.ensures.1,
     )

@@ -14,7 +14,7 @@ returns-then-not-covers c =
     λ l.
     let a = c.args in
     let e = c.seen-seen.ensures ∙ ap (seen a.frame) c.target-place.ensures.result_value in
-    rw (c.at.ensures, c.out_of_range.ensures, e) (move_outside a.frame a.line a.axes a.tool a.progress (rw e at c.if-not-covers.ensures))
+    rw (c.at.ensures, c.out_of_range.ensures, e) (move_outside a.frame a.line a.axes a.tool a.progress.now (rw e at c.if-not-covers.ensures))
 
 pub narrow-end-requires : goal.narrow-end-requires
 narrow-end-requires c =
@@ -28,5 +28,5 @@ returns c =
     λ l.
     let a = c.args in
     let e = c.seen-seen.ensures ∙ ap (seen a.frame) c.target-place.ensures.result_value in
-    rw (c.with_state.ensures, c.standing_at.ensures, c.choosing-chosen.ensures, c.narrow-end.ensures, c.target-place.ensures.result_value)
-    (move_inside a.frame a.line a.axes a.tool a.progress (rw e at c.if-not-covers.ensures))
+    rw (c.standing_at-progress.ensures, c.choosing.ensures, c.narrow-end.ensures, c.target-place.ensures.result_value)
+    (move_inside a.frame a.line a.axes a.tool a.progress.now (rw e at c.if-not-covers.ensures))

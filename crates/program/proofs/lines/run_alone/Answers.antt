@@ -2,41 +2,35 @@
 use Rattle.std.specs.Prelude.{Err}
 use mathlib.Core.Path.{◌≡◌, sym, ◌∙◌}
 use borrow.Author.Rules.{rules}
-use Rattle.press.proofs.InLine.{in_line-mapped, made_in_line}
-use Rattle.stretches.proofs.Lookahead.{ahead-block}
-use Rattle.program.proofs.Alone.{leads-end, ahead-spent, ahead-refused, ahead_begun}
+use Rattle.aries.specs.Setup.{ordinary_frame}
+use Rattle.turns.specs.Turns.{left_at}
+use Rattle.program.proofs.Alone.{leads-end, ahead-known, ahead-refused, ahead_begun}
 use Rattle.program.proofs.lines.run_alone.Goals as goal
 
 pub returns-in_default : goal.returns-in_default
 returns-in_default c =
-    let a = c.args in leads-end a.text.now a.from a.stage a.setup a.progress c.requires.0 c.reader-reader.result (sym c.look_ahead.ensures ∙ c.in_default.is)
-
-pub bounds-text-ahead : goal.bounds-text-ahead
-bounds-text-ahead c =
-    (ahead-block c.reader-reader.result c.args.text.now c.args.from c.in-Some.ahead (sym c.look_ahead.ensures ∙ c.in-Some.is)).inside
-
-pub returns-then-not-may_come : goal.returns-then-not-may_come
-returns-then-not-may_come c =
     let a = c.args in
-    let met = ahead-block _ a.text.now a.from c.in-Some.ahead (rw (c.reader-reader.ensures, c.frame.ensures) at (sym c.look_ahead.ensures ∙ c.in-Some.is)) in
-    λ l. rw c.at.ensures (ahead-spent a.text.now a.from a.stage a.setup a.progress c.requires.0 c.requires.1 met c.if-not-may_come.true)
+    rw c.text_end.ensures
+    (leads-end a.text.now a.from a.program.now c.requires.0 (rw (c.reader-reader.ensures, c.frame.ensures) at (sym c.look_ahead.ensures ∙ c.in_default.is)))
 
-pub returns-in_err-instruction : goal.returns-in_err-instruction
-returns-in_err-instruction c =
+pub begin-requires : goal.begin-requires
+begin-requires c =
     let a = c.args in
-    let x = c.in-Some.ahead in
-    let met = ahead-block _ a.text.now a.from x (rw (c.reader-reader.ensures, c.frame.ensures) at (sym c.look_ahead.ensures ∙ c.in-Some.is)) in
-    let told = in_line-mapped x.at.line x.decoded c.map_err.result c.map_err.ensures.cases (λ e y q. search rules) in
-    let e : c.from_residual.result ≡ Err c.in_err-instruction.field-0.0 = search rules in
+    (ahead-known a.text.now a.from a.program.now c.requires.0 c.requires.1 (rw (c.reader-reader.ensures, c.frame.ensures) at (sym c.look_ahead.ensures ∙ c.in-Some.is))).inside
+
+pub returns-in_err-block : goal.returns-in_err-block
+returns-in_err-block c =
+    let a = c.args in
+    let i = c.requires in
+    let is = rw (c.reader-reader.ensures, c.frame.ensures) at (sym c.look_ahead.ensures ∙ c.in-Some.is) in
+    let e : c.from_residual.result ≡ Err c.in_err-block.field-0.0 = search rules in
     λ l.
-    rw e (ahead-refused a.text.now a.from a.stage a.setup a.progress c.requires.0 c.requires.1 met c.if-not-may_come.false (sym told ∙ c.in_err-instruction.was))
+    rw e (ahead-refused a.text.now a.from a.program.now i.0 i.1 is (sym (c.in_err-block.ensures (ordinary_frame a.program.now.setup) (ahead-known a.text.now a.from a.program.now i.0 i.1 is))))
 
 pub returns : goal.returns
 returns c =
     let a = c.args in
-    let x = c.in-Some.ahead in
-    let i = c.in_ok-instruction in
-    let met = ahead-block _ a.text.now a.from x (rw (c.reader-reader.ensures, c.frame.ensures) at (sym c.look_ahead.ensures ∙ c.in-Some.is)) in
-    let told = in_line-mapped x.at.line x.decoded c.map_err.result c.map_err.ensures.cases (λ e y q. search rules) in
-    let d = made_in_line x.at.line x.decoded (sym told ∙ i.was) in
-    ahead_begun a.text.now a.from a.stage a.setup a.progress c.requires.0 c.requires.1 met c.if-not-may_come.false i.instruction i.offset d c.start.result c.begun-begun.ensures c.start.ensures
+    let i = c.requires in
+    let is = rw (c.reader-reader.ensures, c.frame.ensures) at (sym c.look_ahead.ensures ∙ c.in-Some.is) in
+    ahead_begun a.text.now a.from a.program.now i.0 i.1 is (left_at c.start.result c.start.new.program)
+    (sym (c.in_ok-block.ensures (ordinary_frame a.program.now.setup) (ahead-known a.text.now a.from a.program.now i.0 i.1 is))) c.start.ensures

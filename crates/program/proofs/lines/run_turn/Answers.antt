@@ -1,4 +1,4 @@
 use Rattle.program.proofs.lines.run_turn.Goals as goal
 
 pub returns-in-Storing : goal.returns-in-Storing
-returns-in-Storing c = rw c.in-Storing.is (c.pass_over.ensures _)
+returns-in-Storing c = c.pass_over.ensures _

@@ -1,5 +1,6 @@
 use mathlib.Core.Path.{◌≡◌, refl, sym, ap, ◌∙◌}
 use mathlib.Core.Bool.{true}
+use borrow.Author.Rules.{rules}
 use Prim.Native.Nat.{ℕ, ◌+◌, ◌-◌, ◌^◌, ◌<◌}
 use native.Mathlib.Nat.{sub-zero, add-zero}
 use native.Mathlib.Omega.{arith}
@@ -42,20 +43,25 @@ pub overflow_mul-value : goal.overflow_mul-value
 overflow_mul-value c = omega (arith, room c)
 
 pub overflow_add-value : goal.overflow_add-value
-overflow_add-value c = omega (arith, room c, digit_high (byte c) (digit c))
+overflow_add-value c =
+    let d = (goal.at.overflow_add-value c).Else-not-is_ascii_digit in
+    omega (arith, room d, digit_high (byte d) (digit d))
 
 pub loop-count-preserved : goal.loop-count-preserved
 loop-count-preserved c =
+    let d = (goal.at.loop-count-preserved c).Else-not-is_ascii_digit in
     let w = c.loop-count in
     let a = c.args in
     let t = a.text.now in
     let i = a.from + w.count in
     let l = c.byte_at-b.ensures in
-    let next : a.from + (w.count + 1) ≡ i + 1 = omega arith in (
-      omega (arith, test_inside is_digit t i refl (sym (ap is_digit l) ∙ digit c)),
-      one_more w.value (byte c - 48) w.count w.invariant.1 (omega (arith, digit_high (byte c) (digit c))),
+    let figure : c.from.result ≡ byte d - 48 = search rules in
+    let next : a.from + (w.count + 1) ≡ i + 1 = omega arith in
+    rw figure (
+      omega (arith, test_inside is_digit t i refl (sym (ap is_digit l) ∙ digit d)),
+      one_more w.value (byte d - 48) w.count w.invariant.1 (omega (arith, digit_high (byte d) (digit d))),
       rw next
-          (sym (digits_more_at t i (byte c) w.value w.count l a.most (digit c) (omega arith)) ∙ w.invariant.2),
+          (sym (digits_more_at t i (byte d) w.value w.count l a.most (digit d) (omega arith)) ∙ w.invariant.2),
     )
 
 pub returns : goal.returns

@@ -1,0 +1,5 @@
+-- The number gets smaller.
+use Rattle.printing.proofs.number.+put_decimal.Given as goal
+
+abbrev pub decreases-put_decimal : goal.decreases-put_decimal
+decreases-put_decimal l = l.n

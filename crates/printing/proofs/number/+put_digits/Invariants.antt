@@ -1,5 +1,0 @@
--- The number gets smaller.
-use Rattle.printing.proofs.number.+put_digits.Given as goal
-
-abbrev pub decreases-put_digits : goal.decreases-put_digits
-decreases-put_digits l = l.n
