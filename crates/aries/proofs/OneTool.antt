@@ -24,9 +24,9 @@ use Rattle.aries.specs.Machine.{in_range}
 use Rattle.aries.specs.Mirrors.{seen}
 use Rattle.aries.specs.Moves.{◌⊕◌, moved_to, entered, hit_of, target, choosing, dropping, remembering, with_state, punch, position}
 use Rattle.aries.specs.Patterns.{hit_offset, hit_count, reach_is_near, shear_is_fit, punches, start_of, starting, ending, pattern, run_pattern, recalled, recall}
-use Rattle.aries.specs.Runs.{lent, lent_both, Ran, entries_made}
+use Rattle.aries.specs.Runs.{leaving, lent, lent_both, Ran, entries_made}
 use Rattle.aries.specs.Tallying.{with_chosen}
-use Rattle.aries.proofs.Runs.{left_is}
+use Rattle.aries.proofs.Runs.{left_is, ran-refused, refused_out}
 use Rattle.aries.proofs.Tallied.{AllBy, ran_hits}
 
 -- what is Ok leaves a tool, and its entries are hits with it
@@ -123,11 +123,19 @@ hits_by_left {tool} x m h e =
     subst (λ (t : Option ℕ). AllBy t m.entries) (sym a.0) a.1
 
 -- something carried out with the list alone, with its hits counted by the tool that is left
-pub carried_hits :
+pub accepted_hits :
     {job : Job} {left : Progress} {l l' : List ℤ} {k : ℕ} {tool : Option ℕ} {out : Out (Made Progress)} (t : List ℕ) → OneTool tool out
     → Ran entries_made job (Ok left) (lent l) (lent l') k out
     → Ran entries_made job (Ok left) (lent_both l t) (lent_both l' (with_chosen t left.state.tool k left.entries)) k out
-carried_hits {left = left} {out = out} t h ran =
+accepted_hits {left = left} {out = out} t h ran =
     ran_hits ran t left.state.tool left.entries
     (λ m e. subst (λ (g : Progress). AllBy g.state.tool m.entries) (sym (left_is ran.same m e)) (hits_by_left out m h e))
     (λ m e. ap (λ (g : Progress). g.entries) (left_is ran.same m e))
+
+-- whether it is accepted or refused
+pub carried_hits :
+    {A : Type 0} (result : Out A) (left : Progress) {job : Job} {l l' : List ℤ} {k : ℕ} {tool : Option ℕ} {out : Out (Made Progress)} (t : List ℕ) → OneTool tool out
+    → Ran entries_made job (leaving result left) (lent l) (lent l') k out
+    → Ran entries_made job (leaving result left) (lent_both l t) (lent_both l' (with_chosen t left.state.tool k left.entries)) k out
+carried_hits (Ok a) left t h ran = accepted_hits t h ran
+carried_hits (Err e) left {out = out} t h ran = rw (refused_out e out ran.same) ran-refused

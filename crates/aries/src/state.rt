@@ -20,7 +20,7 @@ ghost use Rattle.aries.specs.Judging.{most_blocks, near};
 ghost use Rattle.aries.specs.Machine.{in_range};
 ghost use Rattle.aries.specs.WidePoints.{point_of, Moderate};
 ghost use Rattle.aries.specs.Mirrors.{mirrored, seen};
-ghost use Rattle.aries.specs.Reader.{reader_of, given_of};
+ghost use Rattle.aries.specs.Reader.{reader_at, reader_of, given_of};
 ghost use Rattle.aries.specs.Setup.{frame_at};
 ghost use Rattle.aries.specs.Steady.{Steady};
 
@@ -233,16 +233,20 @@ impl Frame {
         }
     }
 
-    // What blocks are read by: the setting of the job, and the letters that the state has.
-    pub fn reader(self, state: &State) -> Reader
-        ensures { result ≡ reader_of self state.now }
+    // What blocks are read by: the setting of the job, and the letters given.
+    pub fn reader(self, given: Given) -> Reader
+        ensures { result ≡ reader_at self.job.setting given }
     {
         let job = self.job;
         let setting = job.setting;
-        Reader {
-            setting,
-            given: state.given(),
-        }
+        Reader { setting, given }
+    }
+
+    // The same with the letters that a state has.
+    pub fn reader_of(self, state: &State) -> Reader
+        ensures { result ≡ reader_of self state.now }
+    {
+        self.reader(state.given())
     }
 
     // Whether a place is in the punching range.

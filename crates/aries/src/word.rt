@@ -55,7 +55,7 @@ struct Marks {
 
 // The words of a block from A to Z, where they are written. Marks and numbers lie apart: an array of 26 optional words takes half
 // as much memory again, and with it a block is read a tenth slower.
-#[derive(Drop)]
+#[derive(Clone, Drop)]
 pub struct Letters {
     marks: [Option<Marks>; 26],
     numbers: [i32; 26],
@@ -131,7 +131,7 @@ impl Letters {
 }
 
 // The words of a block by letter. G stands apart: the code, and the G90 or G91.
-#[derive(Drop)]
+#[derive(Clone, Drop)]
 pub struct Words {
     pub letters: Letters,
     pub code: Option<u32>,

@@ -9,6 +9,7 @@ use Rattle.aries.specs.declared.block.Call.TheVariants.{Plain, Mirrored}
 use Rattle.aries.specs.declared.refusal.Refusal.TheVariants.{NotStored, TooDeep}
 use Rattle.aries.specs.declared.state.Frame.{Frame}
 use Rattle.aries.specs.declared.state.Progress.{Progress}
+use Rattle.aries.specs.declared.state.State.{State}
 use Rattle.aries.specs.Outcome.{Out, refused}
 use Rattle.aries.specs.Entries.{map_after}
 use Rattle.aries.specs.Judging.{Judging, limits}
@@ -62,6 +63,14 @@ module _
 
 -- ---- What it needs
 
+-- the frame of its body, by the a and b of a state: one call less is left
+pub frame_steady : {d : ℕ} {f : Frame} (b : Call) (s : State) → 0 < d → GivenNear s → Steady d f → Steady (d - 1) (frame_by b s f)
+frame_steady {d} {f} b s h n steady = go b (subst (λ (k : ℕ). Steady k f) (let e : d ≡ suc (d - 1) = omega arith in e) steady)
+  where
+    go : (b : Call) → Steady (suc (d - 1)) f → Steady (d - 1) (frame_by b s f)
+    go (Plain m) k = steady_less (omega arith) k
+    go (Mirrored m) k = steady_mirrored m.way (mirror_spans s) n k
+
 module _ (b : Call) (f : Frame) (g : Progress) {begun : Progress} (is_begun : begun ≡ begun_by b f.origin g) (short : CallNear b) (given : GivenNear g.state) where
   -- the letters that its body begins with
   pub begun_near : GivenNear begun.state
@@ -71,10 +80,6 @@ module _ (b : Call) (f : Frame) (g : Progress) {begun : Progress} (is_begun : be
       go (Plain n) k = given
       go (Mirrored m) k = giving-near g.state m.axes given k
 
-  -- the frame of its body: one call less is left
-  pub frame_steady : {d : ℕ} {inner : Frame} → inner ≡ frame_by b begun.state f → 0 < d → Steady d f → Steady (d - 1) inner
-  frame_steady {d} is_inner h s = rw is_inner (go b (subst (λ (k : ℕ). Steady k f) (let e : d ≡ suc (d - 1) = omega arith in e) s))
-    where
-      go : (b : Call) → Steady (suc (d - 1)) f → Steady (d - 1) (frame_by b begun.state f)
-      go (Plain n) s = steady_less (omega arith) s
-      go (Mirrored m) s = steady_mirrored m.way (mirror_spans begun.state) begun_near s
+  -- and its frame
+  pub inner_steady : {d : ℕ} {inner : Frame} → inner ≡ frame_by b begun.state f → 0 < d → Steady d f → Steady (d - 1) inner
+  inner_steady is_inner h s = rw is_inner (frame_steady b begun.state h begun_near s)

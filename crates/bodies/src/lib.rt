@@ -77,10 +77,11 @@ impl<'a> Stored<'a> {
     }
 }
 
-// The block runner: lines of a body, up to the first refusal, with so many calls left to open. Direct blocks are carried out as a
-// stretch, a call that comes behind them goes to the body runner, and any other block is out of place.
+// The block runner: lines of a body whose first block has been read, up to the first refusal, with so many calls left to open.
+// Direct blocks are carried out as a stretch, a call that comes behind them goes to the body runner, and any other block is out of
+// place.
 #[cycle(calls)]
-pub fn run_blocks(
+pub fn run_source(
     depth: u8,
     list: &mut [i32],
     tally: &mut [u64; FIGURES],
@@ -101,7 +102,7 @@ pub fn run_blocks(
             Sequel::Outside(_, end) => return Err(Refusal::OutOfPlace.at(end.line)),
         };
         run_body(depth, list, tally, stored, block, end.line, frame, progress)?;
-        rest = Lines::read(frame.reader(&progress.state), rest.text, end);
+        rest = Lines::read(frame.reader_of(&progress.state), rest.text, end);
     }
     Ok(())
 }
@@ -133,8 +134,28 @@ pub fn run_body(
     }
     begin_call(block, frame.origin, progress);
     let inner = frame_by(block, frame, &progress.state);
-    let source = Lines::read(inner.reader(&progress.state), body.bytes, body.start());
-    run_blocks(depth - 1, list, tally, stored, source, inner, progress)?;
+    let source = Lines::read(inner.reader_of(&progress.state), body.bytes, body.start());
+    run_source(depth - 1, list, tally, stored, source, inner, progress)?;
     end_call(block, frame.origin, progress);
     Ok(())
+}
+
+// The lines of a body from a place on: the first block is read, and then they go to the block runner.
+pub fn run_blocks(
+    depth: u8,
+    list: &mut [i32],
+    tally: &mut [u64; FIGURES],
+    stored: Stored,
+    body: &[u8],
+    from: Location,
+    frame: Frame,
+    progress: &mut Progress,
+) -> Result<(), Refused>
+    requires lines_fit { LinesFit from body.now }
+    requires steady { Steady depth frame }
+    requires given_near { GivenNear progress.old.state }
+    ensures { Carried (leaving result progress.new) frame (lent_both list.old tally.old) (lent_both list.new tally.new) progress.old (λ j. run_lines j (call j (bodies_of stored.entry.text.now stored.entry.macros.now) depth) frame from.line (lines (drop from.offset body.now))) }
+{
+    let source = Lines::read(frame.reader_of(&progress.state), body, from);
+    run_source(depth, list, tally, stored, source, frame, progress)
 }

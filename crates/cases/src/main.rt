@@ -70,7 +70,9 @@ fn run_named<R: Files + Print>(rt: &R, name: &[u8], setting: i32, numbers: usize
 }
 
 // Argument i in a buffer, and no bytes where it is missing or too long.
-fn argument<'a>(rt: &impl Env, i: usize, buffer: &'a mut [u8]) -> &'a [u8] {
+fn argument<'a>(rt: &impl Env, i: usize, buffer: &'a mut [u8]) -> &'a [u8]
+    ensures { length result.now ≤ length buffer.old }
+{
     let length = rt.arg(i, buffer).unwrap_or(0);
     &buffer[..length]
 }

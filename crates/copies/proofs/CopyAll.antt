@@ -50,6 +50,23 @@ copy-carried part f line found p g q h s b ran =
 
 -- ---- One copy and the rest
 
+module _ (j : Judging) (part : Part) (f : Frame) (line : ℕ) (found : State) (place : ℕ → Point) (count m : ℕ) (g : Progress) where
+  pub copies_step : m < count
+      → copy_all j part f line found place (count - m) m g
+      ≡ and_then (copy j part f line found (place m) g) (copy_all j part f line found place (count - (m + 1)) (m + 1))
+  unfolding copy_all
+  copies_step h =
+      let e : count - m ≡ suc (count - (m + 1)) = omega arith in
+      ap (λ (n : ℕ). copy_all j part f line found place n m g) e
+      ∙ ap (λ (k : ℕ). and_then (copy j part f line found (place m) g) (copy_all j part f line found place (count - (m + 1)) k)) (sym (add-one m))
+
+  pub copies_end : count ≤ m → copy_all j part f line found place (count - m) m g ≡ no_entry g
+  unfolding copy_all
+  copies_end h =
+      let e : count - m ≡ 0 = omega arith in
+      ap (λ (n : ℕ). copy_all j part f line found place n m g) e
+
+-- the same at the places of a layout
 module _ (j : Judging) (part : Part) (f : Frame) (line : ℕ) (found : State) (p : Places) where
   -- the copies from copy m on
   abbrev pub copies_from : ℕ → Progress → Out (Made Progress)
@@ -63,14 +80,8 @@ module _ (j : Judging) (part : Part) (f : Frame) (line : ℕ) (found : State) (p
       let e : copy_count p.layout - 0 ≡ copy_count p.layout = omega arith in
       ap (λ (n : ℕ). copy_all j part f line found (copy_place p.origin p.layout p.copies) n 0 g) e
 
-  pub copies_step : (m : ℕ) (g : Progress) → m < copy_count p.layout → copies_from m g ≡ and_then (copy_m m g) (copies_from (m + 1))
-  unfolding copy_all
-  copies_step m g h =
-      let place = copy_place p.origin p.layout p.copies in
-      let n = copy_count p.layout - (m + 1) in
-      let e : copy_count p.layout - m ≡ suc n = omega arith in
-      ap (λ (n : ℕ). copy_all j part f line found place n m g) e
-      ∙ ap (λ (k : ℕ). and_then (copy_m m g) (copy_all j part f line found place n k)) (sym (add-one m))
+  pub next_copy : (m : ℕ) (g : Progress) → m < copy_count p.layout → copies_from m g ≡ and_then (copy_m m g) (copies_from (m + 1))
+  next_copy m g h = copies_step j part f line found (copy_place p.origin p.layout p.copies) (copy_count p.layout) m g h
 
   -- what is left is copy m, at a place that is told, and the rest
   pub copies_left :
@@ -78,13 +89,10 @@ module _ (j : Judging) (part : Part) (f : Frame) (line : ℕ) (found : State) (p
       → place ≡ copy_place p.origin p.layout p.copies m → m < copy_count p.layout
       → Leads entries_made job l g.entries (copies_from m g) l₀ k₀ whole
       → Leads entries_made job l g.entries (and_then (copy j part f line found place g) (copies_from (m + 1))) l₀ k₀ whole
-  copies_left m g here more lead = rw here (leads_as (copies_step m g more) lead)
+  copies_left m g here more lead = rw here (leads_as (next_copy m g more) lead)
 
-  pub copies_end : (m : ℕ) (g : Progress) → copy_count p.layout ≤ m → copies_from m g ≡ no_entry g
-  unfolding copy_all
-  copies_end m g h =
-      let e : copy_count p.layout - m ≡ 0 = omega arith in
-      ap (λ (n : ℕ). copy_all j part f line found (copy_place p.origin p.layout p.copies) n m g) e
+  pub no_copy_left : (m : ℕ) (g : Progress) → copy_count p.layout ≤ m → copies_from m g ≡ no_entry g
+  no_copy_left m g h = copies_end j part f line found (copy_place p.origin p.layout p.copies) (copy_count p.layout) m g h
 
 -- ---- Copies of a part without a block
 

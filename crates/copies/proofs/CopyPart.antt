@@ -3,6 +3,7 @@ use Rattle.std.specs.Prelude.{None, Option, Some}
 use Rattle.std.specs.Option.{is_some}
 use mathlib.Core.Path.{◌≡◌, refl, sym, ap, fun_ext, ◌∙◌}
 use mathlib.Core.Bool.{false, true≢false}
+use mathlib.Core.List.{List}
 use Prim.Native.Nat.{ℕ, ◌-◌}
 use Rattle.aries.specs.declared.block.Copies.{Copies}
 use Rattle.aries.specs.declared.block.Layout.{Layout}
@@ -21,7 +22,7 @@ use Rattle.aries.specs.Setup.{ordinary_frame}
 use Rattle.stretches.specs.declared.Ahead.{Ahead}
 use Rattle.stretches.specs.declared.Lines.{Lines}
 use Rattle.stretches.specs.Stretches.{Stretch}
-use Rattle.stretches.specs.Lookahead.{Read}
+use Rattle.stretches.specs.Lookahead.{ahead, Read}
 use Rattle.stretches.proofs.Lookahead.{ahead_nothing}
 use Rattle.stretches.proofs.Stretches.{stretch_skip, stretch_end}
 use Rattle.bodies.specs.declared.Body.{Body as Found}
@@ -54,17 +55,20 @@ pub whole_body : (l : Lines) (b : Found) {at : Location} → l.text.now ≡ b.by
 whole_body l b text place start = rw (text, place, start) refl
 
 -- without a block
-pub part_blank : (j : Judging) (bodies : Bodies) {r : Reader} (l : Lines) → Read r l → is_some l.first ≡ false → part_of j bodies (body_of l.from l.text.now) ≡ blank_part
+pub part_blank : (r : Reader) (j : Judging) (bodies : Bodies) (from : Location) (t : List ℕ) → ahead r t from ≡ None → part_of j bodies (body_of from t) ≡ blank_part
 unfolding run_body
-part_blank j bodies {r} l read none = fun_ext (λ f. fun_ext (λ g. blank f g))
+part_blank r j bodies from t none = fun_ext (λ f. fun_ext (λ g. blank f g))
+  where
+    blank : (f : Frame) (g : Progress) → part_of j bodies (body_of from t) f g ≡ no_entry g
+    blank f g =
+        let calls = call j bodies (most_calls - 1) in
+        lines_stretched j calls f t from g
+        ∙ ap (λ (s : Out (Made Stretch)). thence s (followed j calls f t)) (stretch_skip j f t from g ∙ stretch_end j f t _ g (ahead_nothing r t from none))
+
+-- the same of lines that have been read
+pub lines_blank : (j : Judging) (bodies : Bodies) {r : Reader} (l : Lines) → Read r l → is_some l.first ≡ false → part_of j bodies (body_of l.from l.text.now) ≡ blank_part
+lines_blank j bodies {r} l read none = part_blank r j bodies l.from l.text.now (sym read.first ∙ nothing l.first none)
   where
     nothing : (o : Option Ahead) → is_some o ≡ false → o ≡ None
     nothing None e = refl
     nothing (Some x) e = absurd (true≢false e)
-
-    blank : (f : Frame) (g : Progress) → part_of j bodies (body_of l.from l.text.now) f g ≡ no_entry g
-    blank f g =
-        let calls = call j bodies (most_calls - 1) in
-        let t = l.text.now in
-        lines_stretched j calls f t l.from g
-        ∙ ap (λ (s : Out (Made Stretch)). thence s (followed j calls f t)) (stretch_skip j f t l.from g ∙ stretch_end j f t _ g (ahead_nothing r t l.from (sym read.first ∙ nothing l.first none)))

@@ -18,7 +18,7 @@ use aries::point::WidePoint;
 use aries::refusal::{Refusal, Refused};
 use aries::setup::Setup;
 use aries::state::{Frame, Progress, State};
-use bodies::{FURTHER_CALLS, Stored, run_blocks};
+use bodies::{FURTHER_CALLS, Stored, run_source};
 use placing::Places;
 use stretches::Lines;
 use tallies::FIGURES;
@@ -60,7 +60,7 @@ impl ReadyPart<'_> {
         let point = place.located().ok_or(Refusal::TooFar.at(line))?;
         progress.state = found.standing_at(point);
         let here = frame.at(point);
-        run_blocks(
+        run_source(
             FURTHER_CALLS,
             list,
             tally,
@@ -119,7 +119,7 @@ pub fn copy_part(
         copies,
     };
     let frame = setup.frame();
-    let source = Lines::read(frame.reader(&progress.state), body.bytes, body.start());
+    let source = Lines::read(frame.reader_of(&progress.state), body.bytes, body.start());
     if source.first.is_none() {
         return copy_blank(line, places, progress);
     }

@@ -9,7 +9,7 @@ use Rattle.drawings.specs.Counts.{times, is_over, first_over}
 use Rattle.drawings.specs.Checks.{verdict, checked, EquallyOften, AgreeExactlyWhen}
 
 -- holes that are one are equal
-same_equal : (a b : Hole) → same_hole a b ≡ true → a ≡ b
+pub same_equal : (a b : Hole) → same_hole a b ≡ true → a ≡ b
 same_equal a b e = grind (arith, Decides-int_eq)
 
 module _ (these those : List (Option Hole)) where
@@ -33,11 +33,11 @@ module _ (these those : List (Option Hole)) where
       by false o true f rest = inr (within h k f o)
       by false o false f rest = rw f (rest (rw o at e))
 
-  at_most : (h : Hole) → first_over these those ≡ None → times h these ≤ times h those
+  pub at_most : (h : Hole) → first_over these those ≡ None → times h these ≤ times h those
   at_most h e = grind (arith, not_over h these 1 e)
 
   -- where all stand equally often none is over
-  none_over : (ks : List (Option Hole)) (i : ℕ) → ((h : Hole) → times h these ≡ times h those) → position_from (is_over these those) i ks ≡ None
+  pub none_over : (ks : List (Option Hole)) (i : ℕ) → ((h : Hole) → times h these ≡ times h those) → position_from (is_over these those) i ks ≡ None
   none_over [] i equal = refl
   none_over (None ∷ ks) i equal = none_over ks (i + 1) equal
   none_over (Some k ∷ ks) i equal = grind (arith, equal k, none_over ks (i + 1) equal)

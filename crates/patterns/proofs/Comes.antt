@@ -2,7 +2,7 @@
 -- hits has it as its invariant.
 use Rattle.std.specs.Prelude.{Result, Ok, Err}
 use mathlib.Core.Path.{◌≡◌, refl, ap}
-use Prim.Native.Nat.{ℕ, suc, ◌+◌, ◌-◌, ◌<◌}
+use Prim.Native.Nat.{ℕ, suc, ◌+◌, ◌-◌, ◌≤◌, ◌<◌}
 use native.Mathlib.Nat.{sub-zero}
 use native.Mathlib.Omega.{arith}
 use Rattle.aries.specs.declared.point.Point.{Point}
@@ -21,6 +21,14 @@ use Rattle.aries.specs.Patterns.{hit_offset, hit_count, punches, ending}
 use Rattle.aries.specs.Runs.{Lent, entries_made}
 use Rattle.aries.proofs.Runs.{mapped, ran-map, Leads, leads-start, leads_as, leads_on, leads_out, leads_end}
 use Rattle.patterns.specs.Series.{begun, come, come_out, Comes, hits, series}
+
+-- the end of a pattern makes no entry
+ending-entries : (p : Pattern) (start : Point) (g : Progress) → (ending p start g).entries ≡ g.entries
+ending-entries (Line pitch angle count) start g = refl
+ending-entries (Arc radius angle step count) start g = refl
+ending-entries (Circle radius angle clockwise count) start g = refl
+ending-entries (Grid vertical pitch steps) start g = refl
+ending-entries (Shear angle lengths) start g = refl
 
 module _ (s : Series) (p : Pattern) (count : ℕ) where
   -- so many hits from hit k on, at a line
@@ -60,17 +68,30 @@ module _ (s : Series) (p : Pattern) (count : ℕ) where
         }
 
     -- and one that is refused
-    pub under_refused : {e : Refusal} → Comes (Err e) s made now next (hit_at place) → Comes (Err e) s (begun s) before next (hits s p count)
-    under_refused comes line g =
+    pub hits_refused : {e : Refusal} → Comes (Err e) s made now next (hit_at place) → Comes (Err e) s (begun s) before next (hits s p count)
+    hits_refused comes line g =
         leads_out (hit_at place line (come g s.tooling made)) (left line (count - (k + 1)) (k + 1)) (comes line g)
         (leads_as (turn k place more is line (come g s.tooling made)) (under.leads line g))
 
-  -- at the end
-  pub under_end : {before now : Lent} {made : Reached} → UnderWay before now made count → Comes (Ok made) s (begun s) before now (hits s p count)
+    -- the whole series is refused then
+    pub under_refused : {e : Refusal} → Comes (Err e) s made now next (hit_at place) → count ≡ hit_count p → Comes (Err e) s (begun s) before next (series s p)
+    under_refused comes same line g =
+        rw (← same) (ran-map (ending p s.start) (ending-entries p s.start) (hits s p count line (come g s.tooling (begun s))) (hits_refused comes line g))
+
+  -- all hits are made
+  pub hits_end : {before now : Lent} {made : Reached} {k : ℕ} → UnderWay before now made k → count ≤ k → Comes (Ok made) s (begun s) before now (hits s p count)
   unfolding punches
-  under_end under line g =
-      let e : count - count ≡ 0 = omega arith in
+  hits_end {k = k} under past line g =
+      let e : count - k ≡ 0 = omega arith in
       leads_end (rw e at (under.leads line g))
+
+  -- at the end
+  pub under_end :
+      {before now : Lent} {made : Reached} {k : ℕ} (r : Reached) → UnderWay before now made k → count ≤ k → count ≡ hit_count p
+      → ((g : Progress) → come g s.tooling r ≡ ending p s.start (come g s.tooling made)) → Comes (Ok r) s (begun s) before now (series s p)
+  under_end r under past same ends line g =
+      rw (ends g, ← same)
+      (ran-map (ending p s.start) (ending-entries p s.start) (hits s p count line (come g s.tooling (begun s))) (hits_end under past line g))
 
 -- ---- The end of a pattern
 
@@ -99,14 +120,6 @@ ended_come (Grid vertical pitch steps) start (Ok r) line g tooling = refl
 ended_come (Grid vertical pitch steps) start (Err e) line g tooling = refl
 ended_come (Shear angle lengths) start (Ok r) line g tooling = refl
 ended_come (Shear angle lengths) start (Err e) line g tooling = refl
-
--- it makes no entry
-ending-entries : (p : Pattern) (start : Point) (g : Progress) → (ending p start g).entries ≡ g.entries
-ending-entries (Line pitch angle count) start g = refl
-ending-entries (Arc radius angle step count) start g = refl
-ending-entries (Circle radius angle clockwise count) start g = refl
-ending-entries (Grid vertical pitch steps) start g = refl
-ending-entries (Shear angle lengths) start g = refl
 
 -- all hits of a pattern, and its end
 pub series_ended : (s : Series) (p : Pattern) (r : Result Reached Refusal) {count : ℕ} {before after : Lent} → count ≡ hit_count p

@@ -9,7 +9,7 @@ use Rattle.signed.proofs.Integers.{abs-*ℤ}
 use Rattle.aries.specs.Judging.{is_near, farthest}
 
 -- a near coordinate, in size
-near-size : (z : ℤ) → is_near z ≡ true → nat_abs z ≤ farthest
+pub near-size : (z : ℤ) → is_near z ≡ true → nat_abs z ≤ farthest
 near-size z e = leb-true (nat_abs z) farthest e
 
 -- where the farthest hit of a line is near, each is

@@ -1,7 +1,9 @@
 -- Laws of offsets: where hit k lies, as the code computes it.
 use mathlib.Core.Path.{◌≡◌, refl}
 use mathlib.Core.Bool.{Bool, true}
-use Prim.Native.Nat.{ℕ, ◌+◌}
+use Prim.Native.Nat.{ℕ, ◌+◌, ◌*◌, ◌/◌, ◌≤◌, ◌<◌}
+use native.Mathlib.Nat.{div-le_of_le-mul}
+use native.Mathlib.Omega.{arith}
 use native.Mathlib.Numerals.{add-one}
 use lib.IntN.{ℤ, pos, ◌+ℤ◌, ◌*ℤ◌}
 use Rattle.sine.specs.Sine.{direction_of}
@@ -33,6 +35,10 @@ pub offset-circle : (radius angle : ℤ) (clockwise : Bool) (count k : ℕ)
     → polar radius (circle_angle angle clockwise count k) ≡ hit_offset (pattern.Circle radius angle clockwise count) k
 unfolding hit_offset
 offset-circle radius angle clockwise count k = refl
+
+-- a part of the circle is at most a full turn
+pub turned-small : (n k : ℕ) → k < n → n < 65536 → (72000 * k + n) / (2 * n) ≤ 36000
+turned-small n k h s = div-le_of_le-mul (2 * n) (omega arith)
 
 -- and of a G66
 pub offset-shear : (angle : ℕ) (lengths : Shear) → is_fit lengths ≡ true → (k : ℕ) → cut_offset (cut_of angle lengths) k ≡ hit_offset (pattern.Shear angle lengths) k

@@ -6,7 +6,7 @@ use Rattle.printing.specs.Listing.{lines_of}
 use Rattle.printing.proofs.Buffers.{in_front}
 
 -- the last of some lines
-last_line : (line : ℕ → List ℕ) (i : ℕ) → 0 < i → lines_of line (i - 1) ++ line (i - 1) ≡ lines_of line i
+pub last_line : (line : ℕ → List ℕ) (n : ℕ) → 0 < n → lines_of line n ≡ lines_of line (n - 1) ++ line (n - 1)
 unfolding lines_of
 last_line line zero h = absurd (omega arith)
 last_line line (suc n) h =
@@ -30,7 +30,7 @@ one_more {line} {i} {all} {before} {out} {part} {end} {start} h p q =
       rest =
           ap (λ l. lines_of line (i - 1) ++ l) e.written
           ∙ sym (append_assoc (lines_of line (i - 1)) (line (i - 1)) (drop end out))
-          ∙ ap (λ l. l ++ drop end out) (last_line line i h)
+          ∙ ap (λ l. l ++ drop end out) (sym (last_line line i h))
           ∙ p.rest;
     }
 

@@ -26,7 +26,7 @@ pub fn put_signed(out: &mut [u8], a: i32) -> usize
     ensures { Ends (signed_decimal a) out.old result out.new }
 {
     let start = put_decimal(out, u64::from(a.unsigned_abs()));
-    if a < 0 {
+    if signed::is_negative(a) {
         put_byte(&mut out[..start], b'-')
     } else {
         start

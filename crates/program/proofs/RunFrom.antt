@@ -98,7 +98,7 @@ module _ (j : Judging) (t : List ℕ) where
     line_then = ap (λ (ls : List (List ℕ)). run_from j t at.offset at.line ls p) (lines_at t at.offset h) ∙ rw line-size
 
     -- a block: it begins, is judged by its place and carried out
-    block-begun :
+    pub block-begun :
         (get_or t at.offset 0 ≡ line_feed → ⊥) → is_storing p.stage ≡ false
         → lines_from j t at p
         ≡ and_then

@@ -158,7 +158,7 @@ abbrev pub text_ends : List ℕ → Location → Location
 text_ends t from = record { offset = length t; line = from.line }
 
 -- the end of a line that comes after it lies further on
-behind-beyond : (t : List ℕ) (from end : Location) → from.line ≤ from.offset + 1 → Behind t from end → Beyond t from end
+pub behind-beyond : (t : List ℕ) (from end : Location) → from.line ≤ from.offset + 1 → Behind t from end → Beyond t from end
 behind-beyond t from end n b = record { further = b.after; inside = omega (arith, b.inside); numbered = omega (arith, n, b.paced) }
 
 module _ (t : List ℕ) (from : Location) (p : Program) (runs : p.stage ≡ Running) where
@@ -173,7 +173,7 @@ module _ (t : List ℕ) (from : Location) (p : Program) (runs : p.stage ≡ Runn
 
   module _ {x : Stretch} {before after : Lent} (ran : Ran entries_of_stretch p.setup.job (Ok x) before after p.progress.entries here) where
     -- what it leaves: the letters given, and a call that comes after it,
-    left-near : Near p → StretchNear x
+    pub left-near : Near p → StretchNear x
     left-near n = left_made here ran.same (stretch-near (limits p.setup.job) (ordinary_frame p.setup) (lines (drop from.offset t)) from p.progress n.1)
 
     -- and where that lies
@@ -181,7 +181,7 @@ module _ (t : List ℕ) (from : Location) (p : Program) (runs : p.stage ≡ Runn
     left-behind = left_made here ran.same (stretch-behind t (limits p.setup.job) (ordinary_frame p.setup) from p.progress)
 
     -- whoever does what follows has done the whole
-    stretch-passed :
+    pub stretch-passed :
         (out : Out Turn) (end : Location) → Near p → Beyond t from end → left_after (limits p.setup.job) t out ≡ following (limits p.setup.job) t p x
         → IfOk out (Quiet end (with_progress p x.progress)) → Turns out t from p before after
     stretch-passed (Err e) end n far same quiet =

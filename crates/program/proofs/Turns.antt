@@ -19,7 +19,7 @@ use Rattle.program.specs.Lines.{Beyond, Leads, Turns}
 
 module _ (t : List ℕ) (from : Location) (p : Program) where
   -- lines that make no entry
-  leads_same :
+  pub leads_same :
       (r : Turn) → left_of (limits p.setup.job) t r.next r.program ≡ lines_from (limits p.setup.job) t from p
       → r.program.progress.entries ≡ p.progress.entries → r.program.setup.job ≡ p.setup.job → Beyond t from (place_of r.next) → (Near p → TurnNear r)
       → (l : Lent) → Leads r t from p l l

@@ -80,6 +80,27 @@ module _ {job : Job} {l₀ l : Lent} {t : List ℕ} {p : Program} {from : Locati
             leads = leads_as (ap (λ (n : Next). left_of (limits job) t n q) e) left;
           }
 
+      -- to a block, in a line that ends further on
+      module _
+          {end : Location} {b : Block} (far : Beyond t from end)
+          (is : left_of (limits job) t n q ≡ and_then (carried (limits job) t end b q) (lines_from (limits job) t end)) where
+        ran_here :
+            {out : Out Program} {l'' : Lent} → Carries out t end b q l' l'' → Ran entries_of_program job out l' l'' q.progress.entries (carried (limits job) t end b q)
+        ran_here {out} {l''} done = subst (λ (k : Job). Ran entries_of_program k out l' l'' q.progress.entries (carried (limits k) t end b q)) q-job done.runs
+
+        pub block_refused : {e : Refused} {l'' : Lent} → Carries (Err e) t end b q l' l'' → Ran entries_of_program job (Err e) l₀ l'' 0 (whole job l₀ t)
+        block_refused done = leads_out (carried (limits job) t end b q) (lines_from (limits job) t end) (ran_here done) (leads_as is left)
+
+        pub block-passed : {r : Program} {l'' : Lent} → Carries (Ok r) t end b q l' l'' → Underway job l₀ t l'' r end
+        block-passed done =
+            record {
+              same-job = ap (λ (x : Setup). x.job) done.keeps.setup ∙ q-job;
+              inside = far.inside;
+              numbered = far.numbered;
+              near = (ap (λ (x : Setup). near x.origin) done.keeps.setup ∙ (turn.near u.near).0.0, done.keeps.given);
+              leads = leads_on (carried (limits job) t end b q) (lines_from (limits job) t end) (ran_here done) (leads_as is left);
+            }
+
       -- to a block that runs stored bodies or stores one
       module _ {come : Next} (next : n ≡ come) where
         abbrev end : Location
@@ -89,23 +110,14 @@ module _ {job : Job} {l₀ l : Lent} {t : List ℕ} {p : Program} {from : Locati
         abbrev Comes : Block → Type 0
         Comes b = left_of (limits job) t come q ≡ and_then (carried (limits job) t end b q) (lines_from (limits job) t end)
 
-        left_here : (b : Block) → Comes b → Left job l₀ t l' q.progress.entries (and_then (carried (limits job) t end b q) (lines_from (limits job) t end))
-        left_here b is = leads_as (ap (λ (x : Next). left_of (limits job) t x q) next ∙ is) left
+        far_there : Beyond t from end
+        far_there = subst (λ (x : Next). Beyond t from (place_of x)) next turn.comes
 
-        done_here :
-            {b : Block} {out : Out Program} {l'' : Lent} → Carries out t end b q l' l'' → Ran entries_of_program job out l' l'' q.progress.entries (carried (limits job) t end b q)
-        done_here {b} {out} {l''} done = subst (λ (k : Job). Ran entries_of_program k out l' l'' q.progress.entries (carried (limits k) t end b q)) q-job done.runs
+        there : (b : Block) → Comes b → left_of (limits job) t n q ≡ and_then (carried (limits job) t end b q) (lines_from (limits job) t end)
+        there b is = ap (λ (x : Next). left_of (limits job) t x q) next ∙ is
 
-        pub block-refused : {b : Block} {e : Refused} {l'' : Lent} → Comes b → Carries (Err e) t end b q l' l'' → Ran entries_of_program job (Err e) l₀ l'' 0 (whole job l₀ t)
-        block-refused {b} is done = leads_out (carried (limits job) t end b q) (lines_from (limits job) t end) (done_here done) (left_here b is)
+        pub next-refused : {b : Block} {e : Refused} {l'' : Lent} → Comes b → Carries (Err e) t end b q l' l'' → Ran entries_of_program job (Err e) l₀ l'' 0 (whole job l₀ t)
+        next-refused {b} is done = block_refused far_there (there b is) done
 
-        pub block-passed : {b : Block} {r : Program} {l'' : Lent} → Comes b → Carries (Ok r) t end b q l' l'' → Underway job l₀ t l'' r end
-        block-passed {b} is done =
-            let far : Beyond t from end = subst (λ (x : Next). Beyond t from (place_of x)) next turn.comes in
-            record {
-              same-job = ap (λ (x : Setup). x.job) done.keeps.setup ∙ q-job;
-              inside = far.inside;
-              numbered = far.numbered;
-              near = (ap (λ (x : Setup). near x.origin) done.keeps.setup ∙ (turn.near u.near).0.0, done.keeps.given);
-              leads = leads_on (carried (limits job) t end b q) (lines_from (limits job) t end) (done_here done) (left_here b is);
-            }
+        pub next-passed : {b : Block} {r : Program} {l'' : Lent} → Comes b → Carries (Ok r) t end b q l' l'' → Underway job l₀ t l'' r end
+        next-passed {b} is done = block-passed far_there (there b is) done

@@ -35,7 +35,7 @@ fn run_alone(text: &[u8], from: Location, program: &mut Program) -> Result<Next,
     requires { (InText text.now from) × (Alone program.old.stage) }
     ensures { (l : Lent) → Turns (left_at result program.new) text.now from program.old l l }
 {
-    let reader = program.setup.frame().reader(&program.progress.state);
+    let reader = program.setup.frame().reader_of(&program.progress.state);
     let Some(ahead) = look_ahead(reader, text, from) else {
         return Ok(Next::Line(text_end(text, from)));
     };
@@ -72,7 +72,7 @@ fn run_on(
     ensures { Turns (left_at result program.new) text.now from program.old (lent_both list.old tally.old) (lent_both list.new tally.new) }
 {
     let frame = program.setup.frame();
-    let source = Lines::read(frame.reader(&program.progress.state), text, from);
+    let source = Lines::read(frame.reader_of(&program.progress.state), text, from);
     let sequel = run_stretch(list, tally, source, frame, &mut program.progress)?;
     match sequel {
         None => Ok(Next::Line(text_end(text, from))),

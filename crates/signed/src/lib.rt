@@ -68,7 +68,7 @@ pub fn scaled(a: i32, n: u16, p: u32) -> i64
     i64::from(a) + i64::from(n) * i64::from(p)
 }
 
-// Whether a is below zero. No crate calls it: it stays for the must-fail edit that takes zero for negative.
+// Whether a is below zero.
 pub fn is_negative(a: i32) -> bool
     ensures { result ≡ lt_z a (pos 0) }
 {

@@ -6,7 +6,8 @@ use Prim.Native.Nat.{ℕ, zero, suc, ◌+◌, ◌-◌, ◌%◌, ◌<◌, ◌≤�
 use native.Mathlib.Omega.{arith}
 use lib.Dec.{leb, ltb}
 use lib.IntN.{ℤ, pos, negsuc, neg_ℤ, sub_ℕ, ◌+ℤ◌, ◌-ℤ◌}
-use borrow.Author.Tests.{leb-true, leb-false, ltb-true, ltb-false, le-leb, lt-leb}
+use lib.Signed.{lt_z, rem_z}
+use borrow.Author.Tests.{leb-true, leb-false, ltb-true, ltb-false, le-leb, lt-leb, le-ltb}
 use Rattle.sine.specs.Sine.{turn, acute, turn_sine, sine, cosine}
 
 -- ---- the full turn
@@ -54,6 +55,31 @@ turn-whole = refl
 -- a turn more
 pub turn_period : (a : ℤ) → turn (a +ℤ pos 36000) ≡ turn a
 turn_period a = omega (arith, turn_add a (pos 36000), turn_small a, turn-whole)
+
+-- ---- division by a full turn; the remainder has the angle's sign
+
+-- a remainder below zero lacks a turn
+pub turn_below : (a : ℤ) → lt_z (rem_z a (pos 36000)) (pos 0) ≡ true → rem_z a (pos 36000) +ℤ pos 36000 ≡ pos (turn a)
+unfolding turn
+turn_below (pos n) e = absurd (omega (arith, ltb-true (n % 36000) 0 e))
+turn_below (negsuc n) e = go (suc n % 36000) refl e
+  where
+    go : (r : ℕ) → r ≡ suc n % 36000 → lt_z (neg_ℤ (pos r)) (pos 0) ≡ true → neg_ℤ (pos r) +ℤ pos 36000 ≡ pos (35999 - n % 36000)
+    go zero q e = cc
+    go (suc r) q e =
+        let h : suc r ≤ 36000 = omega arith in
+        let d : 36000 - suc r ≡ 35999 - n % 36000 = omega arith in
+        simp (le-ltb 36000 (suc r) h) (ap pos d)
+
+-- any other is the reduced angle
+pub turn_above : (a : ℤ) → lt_z (rem_z a (pos 36000)) (pos 0) ≡ false → rem_z a (pos 36000) ≡ pos (turn a)
+unfolding turn
+turn_above (pos n) e = refl
+turn_above (negsuc n) e = go (suc n % 36000) refl e
+  where
+    go : (r : ℕ) → r ≡ suc n % 36000 → lt_z (neg_ℤ (pos r)) (pos 0) ≡ false → neg_ℤ (pos r) ≡ pos (35999 - n % 36000)
+    go zero q e = let d : 0 ≡ 35999 - n % 36000 = omega arith in ap pos d
+    go (suc r) q e = cc
 
 -- ---- the complement
 

@@ -26,7 +26,7 @@ unfolding degree_sine hundredth_sine hundredth_cosine
 all_right = refl
 
 -- what the test says of an entry
-record Entry (rule : ℕ → ℕ) (k x : ℕ) : Type 0 where
+pub record Entry (rule : ℕ → ℕ) (k x : ℕ) : Type 0 where
   value : x ≡ rule k
   bound : rule k ≤ one
 

@@ -92,8 +92,16 @@ fn first_run(
         return Ok(());
     }
     let frame = setup.frame();
-    let source = Lines::read(frame.reader(&progress.state), body.bytes, body.start());
-    run_blocks(FURTHER_CALLS, list, tally, stored, source, frame, progress)
+    run_blocks(
+        FURTHER_CALLS,
+        list,
+        tally,
+        stored,
+        body.bytes,
+        body.start(),
+        frame,
+        progress,
+    )
 }
 
 // The U line of a macro: its body starts at a place of the text, behind the U line, whose number goes with the place.
@@ -112,7 +120,7 @@ pub fn open_body(
     ensures opens { Opens (leaving result (with_stored macros.new progress.new)) setup.job (lent_both list.old tally.old) (lent_both list.new tally.new) (with_stored macros.old progress.old) (λ j. open_body j text.now number start.offset start.line (lines (drop start.offset text.now)) setup) }
     ensures given_near { IfOk result (λ u. GivenNear progress.new.state) }
 {
-    let reader = setup.frame().reader(&progress.state);
+    let reader = setup.frame().reader_of(&progress.state);
     let unclosed = Refusal::NotClosed.at(start.line);
     let size = body_size(reader, number, text, start.offset).ok_or(unclosed)?;
     let end = start.offset + size;

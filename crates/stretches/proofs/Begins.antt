@@ -38,7 +38,7 @@ spent : (counted : Bool) (blocks : ℕ) → counted && leb 100000 blocks ≡ tru
 spent true blocks e = le-ltb blocks 100000 (leb-true 100000 blocks e)
 spent false blocks e = sym e
 
-not_spent : (counted : Bool) (blocks : ℕ) → counted && leb 100000 blocks ≡ false → not counted || ltb blocks 100000 ≡ true
+pub not_spent : (counted : Bool) (blocks : ℕ) → counted && leb 100000 blocks ≡ false → not counted || ltb blocks 100000 ≡ true
 not_spent true blocks e = lt-ltb blocks 100000 (leb-false 100000 blocks e)
 not_spent false blocks e = refl
 

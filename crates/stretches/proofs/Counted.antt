@@ -1,5 +1,5 @@
 -- The hits of a direct block: of one tool where its entries are hits, and else there are none. So they are counted in one go.
-use Rattle.std.specs.Prelude.{Ok, Option}
+use Rattle.std.specs.Prelude.{Err, Ok, Option}
 use mathlib.Core.Path.{◌≡◌, refl, sym, ap, ◌∙◌}
 use mathlib.Core.Bool.{Bool, true, false}
 use mathlib.Core.List.{List, []}
@@ -19,10 +19,11 @@ use Rattle.aries.specs.Machine.{in_range}
 use Rattle.aries.specs.Mirrors.{seen}
 use Rattle.aries.specs.Macros.{carry_direct}
 use Rattle.aries.specs.Moves.{target, move, set_pattern_origin}
-use Rattle.aries.specs.Runs.{lent, lent_both, Ran, entries_made}
+use Rattle.aries.specs.Runs.{leaving, lent, lent_both, Ran, entries_made}
 use Rattle.aries.specs.Tallying.{with_chosen}
 use Rattle.aries.proofs.Outcomes.{err≢ok, ok_injective}
-use Rattle.aries.proofs.OneTool.{OneTool, one-position, one-run, one-recall, carried_hits}
+use Rattle.aries.proofs.OneTool.{OneTool, one-position, one-run, one-recall, accepted_hits}
+use Rattle.aries.proofs.Runs.{ran-refused, refused_out}
 use Rattle.aries.proofs.Tallied.{ran_no_hits}
 use Rattle.stretches.specs.Hits.{makes_hits}
 
@@ -57,16 +58,24 @@ module _ (j : Judging) (f : Frame) (line : ℕ) (g : Progress) where
   counting Idle = hitless-ok refl
   counting (Stop optional) = hitless-need (room j.places g.entries) ListFull line (hitless-ok refl)
 
-  module _
-      {job : Job} {left : Progress} {l l' : List ℤ} {k : ℕ} (t : List ℕ) (d : Direct)
-      (ran : Ran entries_made job (Ok left) (lent l) (lent l') k (carry_direct j f line d g)) where
-    -- a block whose entries are hits, with them counted by the tool that it leaves
-    pub hits_counted :
-        makes_hits d ≡ true
+  -- a block whose entries are hits, with them counted by the tool that it leaves
+  module _ {job : Job} {l l' : List ℤ} {k : ℕ} (t : List ℕ) (d : Direct) where
+    pub hits_accepted :
+        {left : Progress} → Ran entries_made job (Ok left) (lent l) (lent l') k (carry_direct j f line d g) → makes_hits d ≡ true
         → Ran entries_made job (Ok left) (lent_both l t) (lent_both l' (with_chosen t left.state.tool k left.entries)) k (carry_direct j f line d g)
-    hits_counted e = let c : Counting true (carry_direct j f line d g) = rw e at (counting d) in carried_hits t c.1 ran
+    hits_accepted ran e = let c : Counting true (carry_direct j f line d g) = rw e at (counting d) in accepted_hits t c.1 ran
 
+    -- whether it is accepted or refused
+    pub hits_counted :
+        {A : Type 0} (result : Out A) (left : Progress) → Ran entries_made job (leaving result left) (lent l) (lent l') k (carry_direct j f line d g) → makes_hits d ≡ true
+        → Ran entries_made job (leaving result left) (lent_both l t) (lent_both l' (with_chosen t left.state.tool k left.entries)) k (carry_direct j f line d g)
+    hits_counted (Ok a) left ran e = hits_accepted ran e
+    hits_counted (Err r) left ran e = rw (refused_out r (carry_direct j f line d g) ran.same) ran-refused
+
+  module _
+      {job : Job} {result : Out Progress} {l l' : List ℤ} {k : ℕ} (t : List ℕ) (d : Direct)
+      (ran : Ran entries_made job result (lent l) (lent l') k (carry_direct j f line d g)) where
     -- any other, with nothing counted
     pub nothing_counted :
-        makes_hits d ≡ false → Ran entries_made job (Ok left) (lent_both l t) (lent_both l' t) k (carry_direct j f line d g)
+        makes_hits d ≡ false → Ran entries_made job result (lent_both l t) (lent_both l' t) k (carry_direct j f line d g)
     nothing_counted e = let c : Counting false (carry_direct j f line d g) = rw e at (counting d) in ran_no_hits ran t c.none

@@ -126,7 +126,7 @@ pub fn run_stretch(
             Block::Call(call) => return Ok(Some(Sequel::Call(call, end))),
             Block::Outside(outside) => return Ok(Some(Sequel::Outside(outside, end))),
         }
-        next = look_ahead(frame.reader(&progress.state), text, end);
+        next = look_ahead(frame.reader_of(&progress.state), text, end);
     }
     Ok(None)
 }

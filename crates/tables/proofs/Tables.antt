@@ -57,7 +57,7 @@ table_numbers-row [] r = refl
 table_numbers-row (q ∷ rs) r = ap (λ (t : List ℤ). numbers_of q ++ t) (table_numbers-row rs r)
 
 -- a row is put behind the others
-row_put :
+pub row_put :
     (table : List ℤ) (n : ℕ) (r : Row) → 3 * n + 3 ≤ length table
     → take (3 * (n + 1)) (with_numbers table n r) ≡ take (3 * n) table ++ numbers_of r
 row_put table n r h =
@@ -86,6 +86,10 @@ reads_none told table places left e =
       goes_on = rw (with_rows_none, all) e;
     }
 
+-- a text is told to be bad
+pub reads_bad : (bad : BadLine) (table : List ℤ) (told : Told) → Err bad ≡ told → Reads (Err bad) table told
+reads_bad bad table told e = rw (← e) (record { answered = refl; read = tt; within = tt })
+
 module _ {told : Told} {table : List ℤ} {places rows line : ℕ} {left : List (List ℕ)} (so_far : ReadsOn told table places rows line left) where
   -- no line is left
   pub reads_all : left ≡ [] → 3 * places ≤ length table → Reads (Ok rows) table told
@@ -100,10 +104,11 @@ module _ {told : Told} {table : List ℤ} {places rows line : ℕ} {left : List 
       })
 
   -- what is left is told to be bad
-  pub reads_bad : (bad : BadLine) → rows_from (places - rows) line left ≡ Err bad → Reads (Err bad) table told
-  reads_bad bad e =
-      let is_bad : Err bad ≡ told = sym (ap (with_rows so_far.read) e) ∙ so_far.goes_on in
-      rw (← is_bad) (record { answered = refl; read = tt; within = tt })
+  told_bad : (bad : BadLine) → rows_from (places - rows) line left ≡ Err bad → Err bad ≡ told
+  told_bad bad e = sym (ap (with_rows so_far.read) e) ∙ so_far.goes_on
+
+  pub left_bad : (bad : BadLine) → rows_from (places - rows) line left ≡ Err bad → Reads (Err bad) table told
+  left_bad bad e = reads_bad bad table told (told_bad bad e)
 
   module _ (l : List ℕ) (ls : List (List ℕ)) (next : left ≡ l ∷ ls) where
     pub past_blank : is_blank l ≡ true → ReadsOn told table places rows (line + 1) ls
@@ -117,13 +122,16 @@ module _ {told : Told} {table : List ℤ} {places rows line : ℕ} {left : List 
         }
 
     pub at_bad : is_blank l ≡ false → row_of l ≡ None → Reads (Err (record { line = line })) table told
-    at_bad b r = reads_bad (record { line = line }) (rw next (bad_step l ls line (places - rows) b r))
+    at_bad b r = left_bad (record { line = line }) (rw next (bad_step l ls line (places - rows) b r))
 
     module _ (row : Row) (b : is_blank l ≡ false) (r : row_of l ≡ Some row) where
-      pub at_many : rows ≡ places → Reads (Err (record { line = line })) table told
-      at_many e =
+      pub at_many : places ≤ rows → ◌≡◌ {A = Told} (Err (record { line = line })) told
+      at_many h =
           let none : places - rows ≡ 0 = omega arith in
-          reads_bad (record { line = line }) (rw (none, next) (full_step l ls line row b r))
+          told_bad (record { line = line }) (rw (none, next) (full_step l ls line row b r))
+
+      pub reads_many : rows ≡ places → Reads (Err (record { line = line })) table told
+      reads_many e = reads_bad (record { line = line }) table told (at_many (omega arith))
 
       pub past_row :
           rows < places → 3 * places ≤ length table → ReadsOn told (with_numbers table rows row) places (rows + 1) (line + 1) ls

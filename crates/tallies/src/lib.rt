@@ -5,7 +5,8 @@ ghost use Rattle.std.specs.Prelude.{◌≡◌};
 ghost use Rattle.aries.specs.Tallying.{with_chosen};
 ghost use Rattle.aries.specs.Tally.{no_tally};
 
-use aries::state::LAST_TOOL;
+// The number of the last tool.
+pub use aries::state::LAST_TOOL;
 
 // The figures of a tool: its hits, and the first and the last index where it stands.
 pub const TOOL_FIGURES: usize = 3;

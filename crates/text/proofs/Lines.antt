@@ -161,13 +161,27 @@ count_feeds_lines (b ∷ a ∷ bs) = go (eqb b line_feed) refl (count_feeds_line
         let n = into_first_same b (lines (a ∷ bs)) some in
         rw (last_of_more b a bs, sum_by-cons (λ c. cond (is_feed c) 1 0) b (a ∷ bs), lines_other b (a ∷ bs) e, e) (omega arith)
 
+count-into_first : (b : ℕ) (ls : List (List ℕ)) → length (into_first b ls) ≤ suc (length ls)
+count-into_first b [] = omega arith
+count-into_first b (l ∷ ls) = omega arith
+
+-- no more lines than bytes
+pub count_small : (t : List ℕ) → length (lines t) ≤ length t
+unfolding lines
+count_small [] = omega arith
+count_small (b ∷ bs) = go (eqb b line_feed) refl (count_small bs)
+  where
+    go : (f : Bool) → eqb b line_feed ≡ f → length (lines bs) ≤ length bs → length (lines (b ∷ bs)) ≤ suc (length bs)
+    go true e h = rw (lines_feed b bs e) (omega arith)
+    go false e h = rw (lines_other b bs e) (omega (arith, count-into_first b (lines bs)))
+
 -- ---- empty lines at the front
 
 blanks_feed : (b : ℕ) (bs : List ℕ) → eqb b line_feed ≡ true → blanks (b ∷ bs) ≡ suc (blanks bs)
 unfolding blanks
 blanks_feed b bs e = simp e (omega arith)
 
-blanks_other : (b : ℕ) (bs : List ℕ) → eqb b line_feed ≡ false → blanks (b ∷ bs) ≡ 0
+pub blanks_other : (b : ℕ) (bs : List ℕ) → eqb b line_feed ≡ false → blanks (b ∷ bs) ≡ 0
 unfolding blanks
 blanks_other b bs e = simp e
 
@@ -175,6 +189,19 @@ blanks_other b bs e = simp e
 pub blanks-short : (t : List ℕ) → blanks t ≤ length t
 unfolding blanks
 blanks-short t = prefix_len-le-length (λ b. not (is_other b)) t
+
+blanks_front : (n : ℕ) (t : List ℕ) → n ≤ blanks t → blanks t ≡ n + blanks (drop n t)
+blanks_front zero t h = omega arith
+blanks_front (suc n) [] h = absurd (omega (arith, blanks-short []))
+blanks_front (suc n) (b ∷ bs) h = go (eqb b line_feed) refl (blanks_front n bs)
+  where
+    go : (f : Bool) → eqb b line_feed ≡ f → (n ≤ blanks bs → blanks bs ≡ n + blanks (drop n bs)) → blanks (b ∷ bs) ≡ suc n + blanks (drop n bs)
+    go true e rest = omega (arith, h, blanks_feed b bs e, rest)
+    go false e rest = absurd (omega (arith, h, blanks_other b bs e))
+
+-- past n of those at i there are so many fewer
+pub blanks-drop : (t : List ℕ) (i n : ℕ) → n ≤ blanks (drop i t) → blanks (drop i t) ≡ n + blanks (drop (i + n) t)
+blanks-drop t i n h = blanks_front n (drop i t) h ∙ ap (λ (d : List ℕ). n + blanks d) (drop-drop n i t)
 
 module _ (t : List ℕ) (i : ℕ) where
   -- a line feed at i: one empty line more

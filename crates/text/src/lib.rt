@@ -80,7 +80,10 @@ fn copy_without_spaces(text: &[u8], buffer: &mut [u8]) -> usize
 pub fn line_end(text: &[u8], from: usize) -> usize
     ensures { result ≡ from + line_length (drop from text.now) }
 {
-    from + line_length(rest_of(text, from))
+    if text.len() <= from {
+        return from;
+    }
+    from + line_length(&text[from..])
 }
 
 // Where the next block starts, from a place between two lines on: past the line feeds that stand there. A place past the

@@ -26,7 +26,7 @@ use Rattle.aries.proofs.Runs.{Accepted, accepted_as, refused_out}
 use Rattle.aries.proofs.Tally.{tally_none}
 use Rattle.aries.proofs.Tallied.{over-tally}
 use Rattle.text.specs.Cleaning.{cleaned}
-use Rattle.tolkjirp.specs.Answers.{Accepts}
+use Rattle.tolkjirp.specs.Answers.{Accepts, Answers}
 use Rattle.tolkjirp.specs.Cleaned.{after_cleaning}
 use Rattle.tolkjirp.proofs.Lists.{cleared, cleared_past}
 
@@ -67,7 +67,7 @@ module _ (setting : Setting) (list after : List ℤ) (tally : List ℕ) (text : 
     -- the entries, with the rest of the list cleared
     pub perform-entries :
         (final : List ℤ) → is_ended left.stage ≡ true → length after ≡ length list → length list / 4 < too_wide → final ≡ cleared after (left.progress.entries * 4)
-        → Accepts (Ok left.progress.entries) final tally (length list) (perform job text last)
+        → Answers (Ok left.progress.entries) final tally (length list) (perform job text last)
     unfolding perform list_of tally_for
     perform-entries final e n short l =
         let m = made.made in
@@ -77,17 +77,24 @@ module _ (setting : Setting) (list after : List ℤ) (tally : List ℕ) (text : 
         let fit : length m.entries ≤ length list / 4 = omega (arith, entries_fit) in
         rw o (record {
           answered = ap (λ (k : ℕ). Ok k) c;
-          listed = λ entries q.
-              (l
+          listed =
+              l
               ∙ ap (λ (k : ℕ). cleared after (k * 4)) c
               ∙ ap (λ (k : ℕ). take (length m.entries * 4) after ++ replicate (k - length m.entries * 4) (pos 0)) n
               ∙ ap (λ (r : Lent). take (length m.entries * 4) r.list ++ replicate (length list - length m.entries * 4) (pos 0)) (ran.written m made.out_is)
-              ∙ cleared_past (lent_both list no_tally) m.entries fit);
-          tallied = λ entries q.
-              (ap (λ (r : Lent). r.tally) (ran.written m made.out_is)
+              ∙ cleared_past (lent_both list no_tally) m.entries fit;
+          tallied =
+              ap (λ (r : Lent). r.tally) (ran.written m made.out_is)
               ∙ ap (λ (t : List ℕ). (over (lent_both list t) 0 m.entries).tally) (sym tally_none)
-              ∙ over-tally list [] m.entries (omega arith));
+              ∙ over-tally list [] m.entries (omega arith);
         })
+
+    pub perform-accepts :
+        (final : List ℤ) → is_ended left.stage ≡ true → length after ≡ length list → length list / 4 < too_wide → final ≡ cleared after (left.progress.entries * 4)
+        → Accepts (Ok left.progress.entries) final tally (length list) (perform job text last)
+    perform-accepts final e n short l =
+        let a = perform-entries final e n short l in
+        record { answered = a.answered; listed = λ entries q. a.listed; tallied = λ entries q. a.tallied }
 
 -- ---- The ways out of an expansion
 

@@ -1,4 +1,4 @@
-ghost use Rattle.std.specs.Prelude.{◌≡◌};
+ghost use Rattle.std.specs.Prelude.{◌≡◌, IfErr};
 ghost use Rattle.aries.specs.Moves.{◌⊕◌};
 ghost use Rattle.aries.specs.WidePoints.{point_of};
 ghost use Rattle.aries.specs.Setup.{reference_of};
@@ -30,7 +30,8 @@ pub fn set_origin(
     offset: Point,
     program: &mut Program,
 ) -> Result<Next, Refused>
-    ensures { SetsOrigin (left_at result program.new) end sheet offset program.old }
+    ensures sets { SetsOrigin (left_at result program.new) end sheet offset program.old }
+    ensures kept { IfErr result (λ e. program.new ≡ program.old) }
 {
     let place = origin_place(sheet, offset);
     let origin = place.located().ok_or(Refusal::TooFar.at(end.line))?;

@@ -1,5 +1,6 @@
-ghost use Rattle.std.specs.Prelude.{◌≡◌};
+ghost use Rattle.std.specs.Prelude.{◌≡◌, IfErr};
 ghost use Rattle.aries.specs.declared.setup.Stage.TheVariants.{Running};
+ghost use Rattle.aries.specs.Program.{at_stage};
 ghost use Rattle.turns.specs.Turns.{Alone, left_at, Settles};
 
 use crate::origins::set_origin;
@@ -14,7 +15,8 @@ use aries::setup::{Program, Stage};
 #[tactic(auto, unfolding(crate::specs::Turns::placed, aries::specs::Program::carry_out, aries::specs::Program::carry_outside))]
 pub fn start(end: Location, block: Block, program: &mut Program) -> Result<Next, Refused>
     requires { Alone program.old.stage }
-    ensures { Settles (left_at result program.new) end block program.old }
+    ensures settles { Settles (left_at result program.new) end block program.old }
+    ensures kept { IfErr result (λ e. program.new ≡ program.old) }
 {
     let (Stage::Fresh, Block::Outside(Outside::Machine(pair))) = (program.stage, block) else {
         return Err(Refusal::OutOfPlace.at(end.line));
@@ -26,12 +28,13 @@ pub fn start(end: Location, block: Block, program: &mut Program) -> Result<Next,
     Ok(Next::Line(end))
 }
 
-// A block that stands only outside bodies, while the program runs, which has begun in a line that ends at a place.
+// A block that stands only outside bodies, which has begun in a line that ends at a place. It is carried out as while the program runs.
 #[tactic(auto, unfolding(crate::specs::Turns::placed, aries::specs::Program::carry_out, aries::specs::Program::carry_outside))]
 pub fn settle(end: Location, outside: Outside, program: &mut Program) -> Result<Next, Refused>
-    requires { program.old.stage ≡ Running }
-    ensures { Settles (left_at result program.new) end (Block.Outside outside) program.old }
+    ensures settles { Settles (left_at result program.new) end (Block.Outside outside) (at_stage Running program.old) }
+    ensures kept { IfErr result (λ e. program.new ≡ at_stage Running program.old) }
 {
+    program.stage = Stage::Running; // whatever it was
     let setup = program.setup;
     match outside {
         Outside::Machine(_) => Err(Refusal::OutOfPlace.at(end.line)),

@@ -46,7 +46,7 @@ line-drop (suc k) (b ∷ bs) h = go (eqb b line_feed) refl (line-drop k bs)
         rw n (rest (omega arith))
 
 -- it is empty where a line feed stands
-line-empty :
+pub line-empty :
     (t : List ℕ) (i : ℕ) → i < length t → eqb (line_length (drop i t)) 0 ≡ is_feed (get_or t i 0)
 line-empty t i h = go (is_feed (get_or t i 0)) refl
   where

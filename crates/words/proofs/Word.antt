@@ -166,7 +166,7 @@ well_formed bs r e = let f = formed bs r e in record { capital = f.capital; smal
 -- ---- the code's answer
 
 module _ (t : List ℕ) (at : ℕ) where
-  word_at :
+  pub word_at :
       (front : ℕ) → front ≡ cond (is_sign (get_or t (at + 1) 0)) 2 1
       → word (drop at t) ≡ read_of (get_or t at 0) (get_or t (at + 1) 0) front (number (drop (at + front) t))
   word_at front f = word_number (drop at t) ∙ simp (get_or-drop, drop-drop, ← f, add-zero)

@@ -39,6 +39,9 @@ fn is_line_end(text: &[u8], at: usize) -> bool
     text.get(at).is_none_or(|b| *b == LINE_FEED)
 }
 
+// The most digits that stand before a point.
+const MOST_WHOLE: usize = 4;
+
 // The number at a place.
 fn read_number(text: &[u8], from: usize) -> Option<Number>
     ensures { result ≡ number (drop from text.now) }
@@ -55,7 +58,7 @@ fn read_number(text: &[u8], from: usize) -> Option<Number>
             size: whole.count,
         });
     }
-    if 4 < whole.count {
+    if MOST_WHOLE < whole.count {
         return None;
     }
     let decimals = read_digits(text, end + 1, 2);
@@ -112,7 +115,7 @@ fn is_pattern_code(code: Option<u32>) -> bool
 }
 
 // The words of a line by letter, and what is told of them in their order.
-#[derive(Drop)]
+#[derive(Clone, Drop)]
 pub struct Line {
     pub words: Words,
     // how many words there are besides N and G

@@ -16,11 +16,11 @@ use Rattle.bodies.proofs.+calls.Given as goal
 abbrev pub decreases-run_body : goal.decreases-run_body
 decreases-run_body l = 2 * l.depth
 
-abbrev pub decreases-run_blocks : goal.decreases-run_blocks
-decreases-run_blocks l = 2 * l.depth + 1
+abbrev pub decreases-run_source : goal.decreases-run_source
+decreases-run_source l = 2 * l.depth + 1
 
-abbrev pub invariant-run_blocks-loop-sequel : goal.invariant-run_blocks-loop-sequel
-invariant-run_blocks-loop-sequel l =
+abbrev pub invariant-run_source-loop-sequel : goal.invariant-run_source-loop-sequel
+invariant-run_source-loop-sequel l =
     let carried = run_lines (limits l.frame.job) (call (limits l.frame.job) (bodies_of l.stored.text.now l.stored.macros.now) l.depth) l.frame in
     record {
       read : Read (reader_of l.frame l.progress.state) l.rest;
@@ -30,5 +30,5 @@ invariant-run_blocks-loop-sequel l =
           (lent_both l.initial.list l.initial.tally) l.initial.progress.entries (carried l.source.from.line (lines (drop l.source.from.offset l.source.text.now)) l.initial.progress);
     }
 
-abbrev pub decreases-run_blocks-loop-sequel : goal.decreases-run_blocks-loop-sequel
-decreases-run_blocks-loop-sequel l = length l.rest.text.now - l.rest.from.offset
+abbrev pub decreases-run_source-loop-sequel : goal.decreases-run_source-loop-sequel
+decreases-run_source-loop-sequel l = length l.rest.text.now - l.rest.from.offset

@@ -10,7 +10,7 @@ use Rattle.aries.specs.Runs.{lent_both}
 use Rattle.aries.specs.Setup.{ordinary_frame}
 use Rattle.aries.proofs.Carried.{carried-refused}
 use Rattle.bodies.specs.Stored.{found_of}
-use Rattle.copies.proofs.CopyPart.{part_missing, no_layout, part-copied, whole_body, part_blank}
+use Rattle.copies.proofs.CopyPart.{part_missing, no_layout, part-copied, whole_body, lines_blank}
 use Rattle.copies.proofs.copy_part.Goals as goal
 
 pub returns-in_err-body : goal.returns-in_err-body
@@ -40,7 +40,7 @@ returns-then-is_none c =
     let source = c.read-source in
     let whole = whole_body source.result c.in_ok-body.body source.ensures.same_text source.ensures.same_place c.start.ensures in
     rw (part-copied (limits a.setup.job) bodies a.setup a.line a.copies a.progress.now found c.in_ok-layout.ensures.ok_part, ← whole)
-    (rw (part_blank (limits a.setup.job) bodies source.result source.ensures.read c.if-is_none.ensures)
+    (rw (lines_blank (limits a.setup.job) bodies source.result source.ensures.read c.if-is_none.ensures)
     (c.copy_blank.ensures (ordinary_frame a.setup) (lent_both a.list.now a.tally.now)))
 
 pub returns : goal.returns

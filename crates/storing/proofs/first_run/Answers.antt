@@ -19,6 +19,5 @@ pub returns : goal.returns
 returns c =
     let a = c.args in
     let stored = a.stored in
-    let source = c.read-source.ensures in
     rw (runs_once (limits a.setup.job) stored.text.now stored.macros.now a.number (body_of a.body) a.setup a.progress.now (sym c.runs_first.ensures ∙ c.if-not-runs_first.false))
-    (rw (source.same_text, source.same_place, c.start.ensures, c.frame-frame.ensures) at c.run_blocks.ensures)
+    (rw (c.start.ensures, c.frame-frame.ensures) at c.run_blocks.ensures)

@@ -14,14 +14,14 @@ use Rattle.storing.proofs.open_body.Goals as goal
 pub returns-in_err-size-clause-opens : goal.returns-in_err-size-clause-opens
 returns-in_err-size-clause-opens c =
     let a = c.args in
-    let size = rw (c.reader-reader.ensures, c.frame.ensures) at c.body_size.ensures.found in
+    let size = rw (c.reader_of-reader.ensures, c.frame.ensures) at c.body_size.ensures.found in
     let e : c.from_residual.result ≡ refused NotClosed a.start.line = search rules in
     rw e (opens-unclosed a.text.now a.number a.start.offset a.start.line a.setup a.macros.now a.progress.now (sym size ∙ c.in_err-size.ensures.ok_part))
 
 pub returns-then-characters-gt-MOST_CHARACTERS-clause-opens : goal.returns-then-characters-gt-MOST_CHARACTERS-clause-opens
 returns-then-characters-gt-MOST_CHARACTERS-clause-opens c =
     let a = c.args in
-    let size = rw (c.reader-reader.ensures, c.frame.ensures) at c.body_size.ensures.found in
+    let size = rw (c.reader_of-reader.ensures, c.frame.ensures) at c.body_size.ensures.found in
     rw c.at.ensures
     (opens-full a.text.now a.number a.start.offset a.start.line a.setup a.macros.now a.progress.now (sym size ∙ c.in_ok-size.ensures.ok_part)
     c.storing-kept.ensures c.characters.ensures c.if-characters-gt-MOST_CHARACTERS.true)
@@ -30,7 +30,7 @@ pub returns-in_err-first_run-clause-opens : goal.returns-in_err-first_run-clause
 unfolding part
 returns-in_err-first_run-clause-opens c =
     let a = c.args in
-    let size = rw (c.reader-reader.ensures, c.frame.ensures) at c.body_size.ensures.found in
+    let size = rw (c.reader_of-reader.ensures, c.frame.ensures) at c.body_size.ensures.found in
     let e : c.from_residual-in_err-first_run.result ≡ Err c.in_err-first_run.field-0.0 = search rules in
     rw e
     (opens-ran a.text.now a.number a.start.offset a.start.line a.setup a.macros.now a.progress.now (sym size ∙ c.in_ok-size.ensures.ok_part)
@@ -40,7 +40,7 @@ pub returns-clause-opens : goal.returns-clause-opens
 unfolding part
 returns-clause-opens c =
     let a = c.args in
-    let size = rw (c.reader-reader.ensures, c.frame.ensures) at c.body_size.ensures.found in
+    let size = rw (c.reader_of-reader.ensures, c.frame.ensures) at c.body_size.ensures.found in
     opens-ran a.text.now a.number a.start.offset a.start.line a.setup a.macros.now a.progress.now (sym size ∙ c.in_ok-size.ensures.ok_part)
     c.storing-kept.ensures c.characters.ensures c.if-characters-gt-MOST_CHARACTERS.false c.in_ok-first_run.ensures
 

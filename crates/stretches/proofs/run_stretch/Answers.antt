@@ -52,7 +52,7 @@ returns-in-Outside c =
 pub loop-next-smaller : goal.loop-next-smaller
 loop-next-smaller c =
     let h = c.loop-next in
-    turn_less c.args.frame h.progress c.begin.new.progress c.in-Some.is h.invariant.known c.begin.ensures c.in_ok-block.was c.reader.result c.look_ahead-next.result c.look_ahead-next.ensures
+    turn_less c.args.frame h.progress c.begin.new.progress c.in-Some.is h.invariant.known c.begin.ensures c.in_ok-block.was c.reader_of.result c.look_ahead-next.result c.look_ahead-next.ensures
 
 pub loop-next-preserved : goal.loop-next-preserved
 loop-next-preserved c =
@@ -62,7 +62,7 @@ loop-next-preserved c =
     let g = c.carry_direct.new.progress in
     let r = reader_of a.frame g.state in
     let end = c.in_ok-block.end in
-    let is = c.look_ahead-next.ensures ∙ ap (λ (r : Reader). ahead r t end) c.reader.ensures in
+    let is = c.look_ahead-next.ensures ∙ ap (λ (r : Reader). ahead r t end) c.reader_of.ensures in
     let fits = turn_fits a.frame h.progress c.begin.new.progress c.in-Some.is h.invariant.known c.begin.ensures c.in_ok-block.was in
     let lead = turn_begun a.frame h.progress c.begin.new.progress c.in-Some.is h.invariant.known c.begin.ensures h.invariant.leads c.in_ok-block.was in
     record {

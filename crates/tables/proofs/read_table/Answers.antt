@@ -17,7 +17,7 @@ use Rattle.std.specs.declared.iter.Enumerate.{Enumerate}
 use Rattle.std.specs.declared.slice.Split.{Split}
 use Rattle.aries.specs.Text.{line_feed}
 use Rattle.tables.specs.Tables.{table_of}
-use Rattle.tables.proofs.Tables.{reads_none, past_blank, at_bad, at_many, past_row, reads_all}
+use Rattle.tables.proofs.Tables.{reads_none, past_blank, at_bad, reads_many, past_row, reads_all}
 use Rattle.tables.proofs.Parts.{parts, rows_from-parts, part_at, parts_end}
 use Rattle.tables.proofs.read_table.Goals.{After-next, In-Some}
 use Rattle.tables.proofs.read_table.Goals as goal
@@ -82,7 +82,7 @@ returns-then-rows-places c =
     let part = next at.In-Some (numbered at.After-next) in
     let some : c.read_row.result ≡ Some c.in_ok-row.row = grind arith in
     rw part.0
-    (at_many c.loop-before.invariant c.in-Some.line.now (left at.In-Some) part.1 c.in_ok-row.row
+    (reads_many c.loop-before.invariant c.in-Some.line.now (left at.In-Some) part.1 c.in_ok-row.row
     (sym c.is_blank.ensures ∙ c.if-is_blank.false) (sym c.read_row.ensures ∙ some) c.if-rows-places.true)
 
 pub loop-before-preserved : goal.loop-before-preserved

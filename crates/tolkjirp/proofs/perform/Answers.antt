@@ -7,7 +7,7 @@ use lib.ListN.{length}
 use Rattle.aries.specs.Program.{is_ended}
 use Rattle.aries.specs.Text.{lines}
 use Rattle.aries.proofs.Runs.{ran_as}
-use Rattle.tolkjirp.proofs.Endings.{accepts-refused, perform-unended, perform-entries}
+use Rattle.tolkjirp.proofs.Endings.{accepts-refused, perform-unended, perform-accepts}
 use Rattle.tolkjirp.proofs.perform.Goals as goal
 
 pub returns-then-ne : goal.returns-then-ne
@@ -25,4 +25,4 @@ returns c =
     let r = c.run_text in
     let ran = ran_as c.in_ok-left.was (rw (c.lending-job.ensures, c.clear.ensures) at r.ensures) in
     let ended : is_ended c.in_ok-left.left.stage ≡ true = search rules in
-    perform-entries a.setting a.list.now r.new.list r.new.tally a.text.now (length (lines a.whole.now)) ran c.clear_from.new.list ended r.auto.list (omega (arith, c.well_formed)) c.clear_from.ensures
+    perform-accepts a.setting a.list.now r.new.list r.new.tally a.text.now (length (lines a.whole.now)) ran c.clear_from.new.list ended r.auto.list (omega (arith, c.well_formed)) c.clear_from.ensures

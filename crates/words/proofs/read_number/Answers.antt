@@ -62,7 +62,7 @@ module _ (c : After-read_digits-decimals) where
   rest = drop (c.args.from + count + 1) c.args.text.now
 
   four : count ≤ 4
-  four = omega (arith, c.if-whole-gt4.false)
+  four = omega (arith, c.if-whole-gt-MOST_WHOLE.false)
 
   two : Bounded 2 0 rest (meant c.read_digits-decimals.result)
   two = held_bounded 2 rest c.read_digits-decimals.result c.read_digits-decimals.ensures
@@ -86,11 +86,11 @@ returns-then-byte_at-ne46 c =
     let other : get_or (text d) (past d) 0 ≡ point → ⊥ = λ p. c.if-byte_at-ne46.true (c.byte_at.ensures ∙ p) in
     rw (parts d) (simp (some-digits g.Else-whole-eq0, ne_eqb (get_or (text d) (past d) 0) point other))
 
-pub returns-then-whole-gt4 : goal.returns-then-whole-gt4
-returns-then-whole-gt4 c =
-    let g = goal.at.returns-then-whole-gt4 c in
+pub returns-then-whole-gt-MOST_WHOLE : goal.returns-then-whole-gt-MOST_WHOLE
+returns-then-whole-gt-MOST_WHOLE c =
+    let g = goal.at.returns-then-whole-gt-MOST_WHOLE c in
     let d = g.After-read_digits-whole in
-    rw (parts d) (simp (some-digits g.Else-whole-eq0, is-point g.Else-byte_at-ne46, lt-leb (whole d).count 4 c.if-whole-gt4.true))
+    rw (parts d) (simp (some-digits g.Else-whole-eq0, is-point g.Else-byte_at-ne46, lt-leb (whole d).count 4 c.if-whole-gt-MOST_WHOLE.true))
 
 pub overflow_add-end-2 : goal.overflow_add-end-2
 overflow_add-end-2 c =

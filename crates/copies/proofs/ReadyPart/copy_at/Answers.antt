@@ -28,4 +28,4 @@ returns c =
     let a = c.args in
     let p = point_of a.place in
     let near = located-at p c.in_ok-point.point (sym c.in_ok-point.ensures.ok_part ∙ c.located.ensures) in
-    copy-carried (λ j. part_by j a.self.now) a.frame a.line a.found p a.progress.now near c.at-here.ensures c.standing_at-progress.ensures refl c.run_blocks.ensures
+    copy-carried (λ j. part_by j a.self.now) a.frame a.line a.found p a.progress.now near c.at-here.ensures c.standing_at-progress.ensures refl c.run_source.ensures

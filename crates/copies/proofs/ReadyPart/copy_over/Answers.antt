@@ -11,7 +11,7 @@ use Rattle.aries.proofs.Runs.{leads-start, leads_as, leads_on, leads_out, leads_
 use Rattle.lanes.specs.Cursors.{passed}
 use Rattle.lanes.proofs.Cursors.{next_within}
 use Rattle.copies.specs.Copying.{part_by}
-use Rattle.copies.proofs.CopyAll.{copies_all, copies_left, copies_end}
+use Rattle.copies.proofs.CopyAll.{copies_all, copies_left, no_copy_left}
 use Rattle.copies.proofs.ReadyPart.copy_over.Goals as goal
 
 pub loop-init : goal.loop-init
@@ -72,4 +72,4 @@ returns c =
     let a = c.args in
     let h = c.loop in
     let over : copy_count a.places.layout ≤ h.counter = omega (arith, c.copy_count-count.ensures, c.loop-test.false) in
-    leads_end (leads_as (copies_end (limits a.frame.job) (part_by (limits a.frame.job) a.self.now) a.frame a.line a.progress.now.state a.places h.counter h.progress over) h.invariant.leads)
+    leads_end (leads_as (no_copy_left (limits a.frame.job) (part_by (limits a.frame.job) a.self.now) a.frame a.line a.progress.now.state a.places h.counter h.progress over) h.invariant.leads)

@@ -14,4 +14,4 @@ pub put_decimal-requires : goal.put_decimal-requires
 put_decimal-requires t c = (omega arith, omega (arith, front c.put_byte-last.ensures, c.put_byte-last.ensures.placed, length_more c.args.n (omega arith) (omega arith)))
 
 pub returns : goal.returns
-returns t c = rw (decimal_more c.args.n (omega arith) (omega arith)) (in_front c.put_byte-last.ensures c.put_decimal.ensures)
+returns t c = rw (decimal_more c.args.n (omega arith)) (in_front c.put_byte-last.ensures c.put_decimal.ensures)

@@ -1,9 +1,13 @@
 -- What the stretch made, and then by what comes after it.
 use Rattle.std.specs.Prelude.{Err, Some}
-use mathlib.Core.Path.{◌≡◌}
+use mathlib.Core.Path.{◌≡◌, sym, ap, subst}
 use borrow.Author.Rules.{rules}
+use Rattle.aries.specs.declared.block.Block.{Block}
+use Rattle.aries.specs.declared.setup.Stage.{Stage}
+use Rattle.aries.specs.Outcome.{Out}
+use Rattle.aries.specs.Program.{with_progress, at_stage}
 use Rattle.stretches.specs.declared.Sequel.{Sequel}
-use Rattle.turns.specs.Turns.{left_at}
+use Rattle.turns.specs.Turns.{Turn, left_at, Settles}
 use Rattle.program.proofs.Stretches.{stretch-refused, stretch-ended, stretch-called, stretch-settled}
 use Rattle.program.proofs.lines.run_on.Goals as goal
 
@@ -38,5 +42,8 @@ returns-in-Some-Outside c =
     let s = c.read-source.ensures in
     let b = c.in-Some-Outside in
     let e : c.in_ok-sequel.sequel ≡ Some (Sequel.Outside b.outside b.end) = search rules in
+    let left : Out Turn = left_at c.settle.result c.settle.new.program in
+    -- the program runs, so that it is carried out as it stands
+    let running = ap (λ (s : Stage). at_stage s (with_progress a.program.now c.run_stretch.new.progress)) (sym r.running) in
     stretch-settled a.text.now a.from a.program.now r.running (rw (c.frame-frame.ensures, s.same_text, s.same_place) at c.in_ok-sequel.ensures) r.in_text r.near e
-    (left_at c.settle.result c.settle.new.program) c.settle.ensures
+    left (subst (Settles left b.end (Block.Outside b.outside)) running c.settle.ensures.settles)

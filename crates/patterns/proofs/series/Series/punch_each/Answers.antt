@@ -3,7 +3,7 @@ use Rattle.std.specs.Prelude.{Err}
 use mathlib.Core.Path.{◌≡◌}
 use native.Mathlib.Omega.{arith}
 use borrow.Author.Rules.{rules}
-use Rattle.patterns.proofs.Comes.{under_next, under_refused, under_end}
+use Rattle.patterns.proofs.Comes.{under_next, hits_refused, hits_end}
 use Rattle.patterns.proofs.series.Series.punch_each.Goals as goal
 
 pub returns-in_err-reached : goal.returns-in_err-reached
@@ -13,7 +13,7 @@ returns-in_err-reached g c =
     let is = lie c.loop-k.k c.place.result c.loop-k-test.true c.place.ensures in
     let e : c.from_residual.result ≡ Err c.in_err-reached.field-0.0 = search rules in
     rw e
-    (under_refused a.self p a.count (c.loop-k.invariant p lie) c.loop-k-test.true is (λ l q. rw c.in_err-reached.was at (c.punch_next.ensures l q)) line progress)
+    (hits_refused a.self p a.count (c.loop-k.invariant p lie) c.loop-k-test.true is (λ l q. rw c.in_err-reached.was at (c.punch_next.ensures l q)) line progress)
 
 pub loop-k-preserved : goal.loop-k-preserved
 loop-k-preserved g c =
@@ -26,5 +26,4 @@ pub returns : goal.returns
 returns g c =
     λ p lie.
     let a = c.args in
-    let e : c.loop-k.k ≡ a.count = omega arith in
-    under_end a.self p a.count (rw e at (c.loop-k.invariant p lie))
+    hits_end a.self p a.count (c.loop-k.invariant p lie) (omega arith)

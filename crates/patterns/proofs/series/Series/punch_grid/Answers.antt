@@ -13,7 +13,7 @@ use Rattle.aries.specs.Lanes.{lane_end}
 use Rattle.aries.specs.Moves.{◌⊕◌}
 use Rattle.aries.specs.Patterns.{grid_offset, hit_offset, hit_count}
 use Rattle.aries.specs.WidePoints.{point_of}
-use Rattle.patterns.proofs.Comes.{series_ended, under_start, under_next, under_refused, under_end}
+use Rattle.patterns.proofs.Comes.{series_ended, under_start, under_next, hits_refused, hits_end}
 use Rattle.patterns.proofs.series.Series.punch_grid.Goals.{After-grid_place-place, After-next-cursor}
 use Rattle.patterns.proofs.series.Series.punch_grid.Goals as goal
 
@@ -57,7 +57,7 @@ returns-in_err-reached c =
     let e : c.from_residual.result ≡ Err c.in_err-reached.field-0.0 = search rules in
     rw e
     (series_ended a.self p (Err c.in_err-reached.field-0.0) c.grid_hits-count.ensures
-    (under_refused a.self p c.grid_hits-count.result c.loop-k.invariant.under_way c.loop-k-test.true is (λ l g. rw c.in_err-reached.was at (c.punch_next.ensures l g))))
+    (hits_refused a.self p c.grid_hits-count.result c.loop-k.invariant.under_way c.loop-k-test.true is (λ l g. rw c.in_err-reached.was at (c.punch_next.ensures l g))))
 
 pub loop-k-preserved : goal.loop-k-preserved
 loop-k-preserved c =
@@ -76,6 +76,5 @@ unfolding hit_count
 returns c =
     let a = c.args in
     let p = Grid a.vertical a.pitch a.steps in
-    let e : c.loop-k.k ≡ c.grid_hits-count.result = omega arith in
     series_ended a.self p (Ok c.loop-k.reached) c.grid_hits-count.ensures
-    (under_end a.self p c.grid_hits-count.result (rw e at c.loop-k.invariant.under_way))
+    (hits_end a.self p c.grid_hits-count.result c.loop-k.invariant.under_way (omega arith))
