@@ -1,7 +1,7 @@
--- Laws of decimal digits: they are those that the library writes, so the last one comes after those of the tenth part, and there
--- are few. Assumes nothing.
+-- Laws of decimal digits: the last one comes after those of the tenth part, and there are few; a word of 64 bits has those that the
+-- library writes. Assumes nothing.
 use Rattle.std.proofs.Common.{Bool, true, false, ltb, FitsSigned, w32, ◌≡◌, refl, sym, ap, ◌∙◌, List, [], ◌∷◌, ◌++◌, ℕ, zero, suc, ◌+◌, ◌/◌, ◌%◌, ◌^◌, ◌≤◌, ◌<◌, ℤ, pos, negsuc, length, arith}
-use Rattle.std.proofs.lemmas.Fmt.{decimal_by_steps, decimal_digit, decimal_nonempty, length-decimal-le}
+use Rattle.std.proofs.lemmas.Fmt.{decimal_by_steps}
 use Rattle.std.proofs.lemmas.List.{length-append}
 use Rattle.std.specs.Fmt as written
 use borrow.Author.Tests.{lt-ltb, le-ltb, ltb-true, ltb-false}
@@ -41,13 +41,14 @@ unfolding Enough
 enough_more n ds h e zero i = absurd (omega arith)
 enough_more n ds h e (suc k) i = digits_more k n h ∙ ap (λ (d : List ℕ). d ++ (digit (n % 10) ∷ [])) (e k (omega arith))
 
--- the digits of the library
-written_so : (n : ℕ) → n < 2 ^ 64 → decimal n ≡ written.decimal n
+-- a word of 64 bits has the digits that the library writes
+pub written_so : (n : ℕ) → n < 2 ^ 64 → decimal n ≡ written.decimal n
 unfolding decimal Enough
 written_so n small = decimal_by_steps Enough (λ n h k i. digits-one k n h) enough_more n small n (omega arith)
 
 pub decimal_one : (n : ℕ) → n < 10 → decimal n ≡ digit n ∷ []
-decimal_one n h = written_so n (omega arith) ∙ decimal_digit n h
+unfolding decimal
+decimal_one n h = digits-one n n h
 
 -- a number below ten is its last digit
 pub decimal_last : (n : ℕ) → n < 10 → decimal n ≡ digit (n % 10) ∷ []
@@ -69,7 +70,7 @@ decimal_more (suc k) h =
 pub length_more : (n : ℕ) → 10 ≤ n → n < 2 ^ 64 → length (decimal n) ≡ length (decimal (n / 10)) + 1
 length_more n h small = ap length (decimal_more n h) ∙ length-append (decimal (n / 10)) (digit (n % 10) ∷ [])
 
--- there is one at least, of every number,
+-- there is one at least
 digits-some : (k n : ℕ) → 1 ≤ length (digits k n)
 unfolding digits
 digits-some zero n = omega arith
@@ -85,9 +86,9 @@ decimal-some n = digits-some n n
 
 -- and so of a word of 64 bits
 pub decimal_some : (n : ℕ) → n < 2 ^ 64 → 0 < length (decimal n)
-decimal_some n h = rw (written_so n h) (decimal_nonempty n h)
+decimal_some n h = decimal-some n
 
--- below a power of ten, no more digits than the power says,
+-- below a power of ten, no more digits than the power says
 pub decimal-short : (k n : ℕ) → n < 10 ^ suc k → length (decimal n) ≤ suc k
 decimal-short zero n h = rw (decimal_one n (omega arith)) (omega arith)
 decimal-short (suc k) n h = go (ltb n 10) refl (decimal-short k (n / 10))
@@ -100,20 +101,16 @@ decimal-short (suc k) n h = go (ltb n 10) refl (decimal-short k (n / 10))
         let d : n / 10 < 10 ^ suc k = omega arith in
         rw (decimal_more n (ltb-false n 10 e)) (simp length-append (omega (arith, rest d)))
 
--- and so of a word of 64 bits
-word_short : (k n : ℕ) → 0 < k → n < 10 ^ k → n < 2 ^ 64 → length (decimal n) ≤ k
-word_short k n some h small = rw (written_so n small) (length-decimal-le k n some h small)
-
 -- a word of 64 bits has at most 20 digits
 pub decimal_word : (n : ℕ) → n < 2 ^ 64 → length (decimal n) ≤ 20
-decimal_word n h = word_short 20 n (omega arith) (omega arith) h
+decimal_word n h = decimal-short 19 n (omega arith)
 
 -- a tool has at most two digits
 pub decimal_tool : (n : ℕ) → n < 100 → length (decimal n) ≤ 2
-decimal_tool n h = word_short 2 n (omega arith) (omega arith) (omega arith)
+decimal_tool n h = decimal-short 1 n (omega arith)
 
 -- a word of 32 bits has at most ten digits and a minus
 pub signed_word : (a : ℤ) → FitsSigned w32 a → length (signed_decimal a) ≤ 11
 unfolding signed_decimal
-signed_word (pos n) f = omega (arith, word_short 10 n)
-signed_word (negsuc n) f = omega (arith, word_short 10 (suc n))
+signed_word (pos n) f = omega (arith, decimal-short 9 n)
+signed_word (negsuc n) f = omega (arith, decimal-short 9 (suc n))

@@ -80,6 +80,7 @@ fn copy_without_spaces(text: &[u8], buffer: &mut [u8]) -> usize
 pub fn line_end(text: &[u8], from: usize) -> usize
     ensures { result ≡ from + line_length (drop from text.now) }
 {
+    // told first: the search is faster where it has no test of this
     if text.len() <= from {
         return from;
     }

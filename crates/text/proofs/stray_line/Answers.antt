@@ -1,4 +1,4 @@
-use Rattle.std.proofs.Common.{◌∙◌, sym, ap}
+use Rattle.std.proofs.Common.{◌∙◌, sym}
 use Rattle.text.proofs.Cleaning.{stray_none, place_found, place_none}
 use Rattle.text.proofs.stray_line.Goals as goal
 
